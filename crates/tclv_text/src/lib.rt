@@ -1,0 +1,13 @@
+//! Base types of the shell: texts, want of memory, and the counters of the value layer.
+//!
+//! A text is a list of code points; its bytes are their UTF-8. All layers above speak of texts by
+//! their code points, and lend them as byte slices that are valid UTF-8.
+#![tactic(auto)]
+
+mod counters;
+mod memory;
+mod texts;
+
+pub use counters::Stats;
+pub use memory::NoMemory;
+pub use texts::{Text, as_str};
