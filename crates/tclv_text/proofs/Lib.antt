@@ -1,1 +1,4 @@
 pub mod TextLemmas
+pub mod CharacterLemmas
+pub mod Scans
+pub mod Lifted

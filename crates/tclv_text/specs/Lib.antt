@@ -1,1 +1,4 @@
 pub mod Texts
+pub mod Characters
+pub mod Scans
+pub mod Cuts

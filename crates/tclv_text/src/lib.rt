@@ -4,6 +4,7 @@
 //! their code points, and lend them as byte slices that are valid UTF-8.
 #![tactic(auto)]
 
+mod characters;
 mod counters;
 mod memory;
 mod texts;
