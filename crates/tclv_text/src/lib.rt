@@ -6,9 +6,12 @@
 
 mod characters;
 mod counters;
+pub mod laws;
 mod memory;
+mod numbers;
 mod texts;
 
 pub use counters::Stats;
 pub use memory::NoMemory;
+pub use numbers::{WholeFault, whole, whole_text};
 pub use texts::{Text, as_str};
