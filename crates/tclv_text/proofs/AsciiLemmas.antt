@@ -4,13 +4,14 @@ use Rattle.std.proofs.lemmas.List.{length-drop, length-take, get_or-drop, get_or
 use Rattle.std.proofs.lemmas.List.Sums.{prefix_len_passes}
 use Rattle.std.proofs.lemmas.Bool.{cases_lt, ne_eqb, and_left, and_right, and_parts, false≢true}
 use Rattle.std.proofs.lemmas.Bool.Decides.{nat_tests}
-use Rattle.std.proofs.lemmas.Str.{encode_ascii}
+use Rattle.std.proofs.lemmas.Str.{encode_ascii, chars-IsAscii, scalars-chars, IsUtf8-from_ascii}
 use Rattle.std.specs.List.{prefix_len, suffix_len, list_all}
-use Rattle.std.specs.Str.{chars, str_eq_ignore_ascii_case}
+use Rattle.std.specs.Str.{chars, str_eq_ignore_ascii_case, IsAscii}
+use Rattle.std.proofs.lemmas.Str.Ascii.{encodes-IsAscii}
 use Rattle.std.specs.Char.{to_ascii_lowercase}
-use lib.Utf8.{encode, encodes}
+use lib.Utf8.{encode, encodes, scalars}
 use mathlib.Core.Logic.{⊎_elim, inl, inr, ◌⊎◌}
-use Rattle.tclv_text.specs.Texts.{IsText}
+use Rattle.tclv_text.specs.Texts.{IsText, Appends}
 use Rattle.tclv_text.proofs.Lifted.{text_spells, IsHighBlock, high_encode}
 
 -- a unit of the list is no ASCII
@@ -92,3 +93,7 @@ no_word (x ∷ d) (y ∷ w) l h =
     (λ (k : x < 128). and_right _ _ (no_word d w p.1 (tail_high x d k h)))
     (λ (g : 128 ≤ x). and_left _ _ (ne_eqb (to_ascii_lowercase x) (to_ascii_lowercase y) (λ e. omega (arith, high_lower x g, low_lower y p.0))))
     (cases_lt x 128)
+
+-- text of ASCII is its own bytes
+pub appends_ascii : (old new cs : List ℕ) → IsAscii cs → new ≡ old ++ cs → Appends old new cs
+appends_ascii old new cs h e = record { bytes = e ∙ ap (λ x. old ++ x) (sym (encodes-IsAscii cs h)); points = subst (λ (x : List ℕ). scalars x ≡ true) (chars-IsAscii cs h) (scalars-chars cs (IsUtf8-from_ascii cs h)) }

@@ -6,3 +6,5 @@ pub mod AsciiLemmas
 pub mod CappedNumbers
 pub mod NumbersLifted
 pub mod NumbersBack
+pub mod TruthLemmas
+pub mod IndexLemmas

@@ -52,7 +52,7 @@ in_high : (o : Option ℕ) (cs : List ℕ) → IfSome o (λ r. r ≤ 36) → Has
 in_high None cs l h = refl
 in_high (Some r) cs l h = number_high r cs l h
 
-radix_small : (m : ℕ) → IfSome (radix_of m) (λ r. r ≤ 36)
+pub radix_small : (m : ℕ) → IfSome (radix_of m) (λ r. r ≤ 36)
 radix_small m =
     elim (eqb m 120 || eqb m 88) as (λ b. IfSome (cond b (Some 16) (cond (eqb m 111 || eqb m 79) (Some 8) (cond (eqb m 98 || eqb m 66) (Some 2) (cond (eqb m 100 || eqb m 68) (Some 10) None)))) (λ r. r ≤ 36)) [
       | true ↦ omega arith

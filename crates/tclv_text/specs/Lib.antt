@@ -3,3 +3,5 @@ pub mod Characters
 pub mod Scans
 pub mod Cuts
 pub mod Numbers
+pub mod Truths
+pub mod Indices

@@ -6,12 +6,16 @@
 
 mod characters;
 mod counters;
+mod indices;
 pub mod laws;
 mod memory;
 mod numbers;
 mod texts;
+mod truths;
 
 pub use counters::Stats;
+pub use indices::{IndexFault, index_of};
 pub use memory::NoMemory;
 pub use numbers::{WholeFault, whole, whole_text};
 pub use texts::{Text, as_str};
+pub use truths::truth;

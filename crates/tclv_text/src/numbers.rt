@@ -3,7 +3,7 @@ ghost use Rattle.std.specs.Prelude.{◌≡◌, ℕ, ◌+◌, ◌-◌, ◌*◌, �
 ghost use Rattle.std.specs.Str.{chars, str_eq_ignore_ascii_case};
 ghost use Rattle.std.specs.List.{prefix_len, suffix_len};
 ghost use Rattle.std.specs.Char.{digit_value, is_ascii_digit, is_ascii_hexdigit};
-ghost use Rattle.tclv_text.specs.Texts.{IsText};
+ghost use Rattle.tclv_text.specs.Texts.{IsText, Appends};
 ghost use Rattle.tclv_text.specs.Characters.{is_space};
 ghost use Rattle.tclv_text.specs.Numbers.{trim, number, radix_of, number_in, based_number, unsigned, capped, without_sign, is_digits, is_exponent, is_fraction_or_exponent, is_decimal_fraction, is_closed_digits, is_nan_with_digits, is_named_float, is_float_form, in_range, whole, whole_text};
 
@@ -158,7 +158,7 @@ fn is_decimal_fraction(text: &[u8]) -> bool
 }
 
 /// Whether the text is the word, in any case.
-fn is_word(text: &[u8], word: &[u8]) -> bool
+pub(crate) fn is_word(text: &[u8], word: &[u8]) -> bool
     ensures { result ≡ str_eq_ignore_ascii_case text.now word.now }
 {
     text.eq_ignore_ascii_case(word)
@@ -222,7 +222,7 @@ fn signed(minus: bool, size: u64) -> Result<i64, WholeFault>
 
 /// The whole number that these bytes write.
 #[tactic(auto, unfolding(crate::specs::Numbers::whole))]
-fn whole_of(text: &[u8]) -> Result<i64, WholeFault>
+pub(crate) fn whole_of(text: &[u8]) -> Result<i64, WholeFault>
     ensures { result ≡ whole text.now }
 {
     let body = trim(text);
@@ -251,7 +251,7 @@ pub fn whole(text: &[u8]) -> Result<i64, WholeFault>
 
 /// Appends the decimal text of a number to UTF-8 bytes. After `NoMemory`, `out` is as before.
 pub fn whole_text(n: i64, out: &mut Vec<u8>) -> Result<(), NoMemory>
-    ensures ok { OnOk result (out.new.items ≡ out.old.items ++ whole_text n) }
+    ensures ok { OnOk result (Appends out.old.items out.new.items (whole_text n)) }
     ensures err { OnErr result (out.new.items ≡ out.old.items) }
 {
     let mut buffer = Buffer::new();
