@@ -8,3 +8,4 @@ pub mod NumbersLifted
 pub mod NumbersBack
 pub mod TruthLemmas
 pub mod IndexLemmas
+pub mod GlobLemmas

@@ -5,3 +5,5 @@ pub mod Cuts
 pub mod Numbers
 pub mod Truths
 pub mod Indices
+pub mod Globs
+pub mod GlobSearch

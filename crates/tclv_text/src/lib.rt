@@ -6,6 +6,7 @@
 
 mod characters;
 mod counters;
+mod globs;
 mod indices;
 pub mod laws;
 mod memory;
@@ -14,6 +15,7 @@ mod texts;
 mod truths;
 
 pub use counters::Stats;
+pub use globs::glob_match;
 pub use indices::{IndexFault, index_of};
 pub use memory::NoMemory;
 pub use numbers::{WholeFault, whole, whole_text};
