@@ -11,7 +11,8 @@ use Rattle.std.proofs.lemmas.Str.Ascii.{encodes-IsAscii}
 use Rattle.std.specs.Char.{to_ascii_lowercase}
 use lib.Utf8.{encode, encodes, scalars}
 use mathlib.Core.Logic.{⊎_elim, inl, inr, ◌⊎◌}
-use Rattle.tclv_text.specs.Texts.{IsText, Appends}
+use Rattle.tclv_text.specs.Texts.{IsText, Appends, AppendsText}
+use Rattle.tclv_text.proofs.TextLemmas.{text_append, chars_append}
 use Rattle.tclv_text.proofs.Lifted.{text_spells, IsHighBlock, high_encode}
 
 -- a unit of the list is no ASCII
@@ -97,3 +98,10 @@ no_word (x ∷ d) (y ∷ w) l h =
 -- text of ASCII is its own bytes
 pub appends_ascii : (old new cs : List ℕ) → IsAscii cs → new ≡ old ++ cs → Appends old new cs
 appends_ascii old new cs h e = record { bytes = e ∙ ap (λ x. old ++ x) (sym (encodes-IsAscii cs h)); points = subst (λ (x : List ℕ). scalars x ≡ true) (chars-IsAscii cs h) (scalars-chars cs (IsUtf8-from_ascii cs h)) }
+
+pub appends_ascii_text : (old new cs : List ℕ) → IsAscii cs → new ≡ old ++ cs → AppendsText old new cs
+appends_ascii_text old new cs h e t =
+    let more : IsText cs = record { utf8 = IsUtf8-from_ascii cs h } in (
+      subst IsText (sym e) (text_append t more),
+      ap chars e ∙ chars_append old cs t ∙ ap (λ x. chars old ++ x) (chars-IsAscii cs h),
+    )

@@ -241,3 +241,93 @@ pub fn glob_match(pattern: &[u8], text: &[u8], nocase: bool) -> bool
         Answer::Somewhere(behind, rest) => fits_somewhere(behind, rest, nocase),
     }
 }
+
+#[cfg(test)]
+mod tests {
+    use super::*;
+    use std::test::Fail;
+
+    #[test]
+    fn matches_patterns(rt: HostRuntime) {
+        let fits = [
+            ("", ""),
+            ("*", ""),
+            ("**", "ab"),
+            ("a*c", "abbc"),
+            ("*a*b", "xaybzb"),
+            ("*ab", "aaab"),
+            ("?", "\u{e9}"),
+            ("?*?", "ab"),
+            ("[abc]", "c"),
+            ("[a-c]", "c"),
+            ("[c-a]x", "bx"),
+            ("[a-c-e]", "-"),
+            ("[a-c-e]", "e"),
+            ("[-a]", "-"),
+            ("[a-]", "-"),
+            ("[a-", "-"),
+            ("[abc", "b"),
+            ("[a*]b", "*b"),
+            ("[\\]", "\\"),
+            ("[\u{e0}-\u{ef}]", "\u{e9}"),
+            ("\\*", "*"),
+            ("\\a\\\\", "a\\"),
+            ("]", "]"),
+        ];
+        for (pattern, text) in fits {
+            assert!(rt; glob_match(pattern.as_bytes(), text.as_bytes(), false), "{pattern} at {text}");
+        }
+        let fails = [
+            ("", "a"),
+            ("?", ""),
+            ("?", "ab"),
+            ("a*c", "abcd"),
+            ("*a*b", "xbya"),
+            ("[a-c]", "d"),
+            ("[a-]", "b"),
+            ("[a-c-e]", "d"),
+            ("[]", ""),
+            ("[]", "]"),
+            ("[]a]", "a"),
+            ("[", "["),
+            ("[ab", "abc"),
+            ("\\*", "a"),
+            ("a\\", "a\\"),
+            ("a\\", "a"),
+            ("A", "a"),
+        ];
+        for (pattern, text) in fails {
+            assert!(rt; !glob_match(pattern.as_bytes(), text.as_bytes(), false), "{pattern} at {text}");
+        }
+    }
+
+    #[test]
+    fn matches_in_any_case(rt: HostRuntime) {
+        let rows = [
+            ("A*c", "aBC", true),
+            ("[A-C]", "b", true),
+            ("\\X", "x", true),
+            ("[^-`]", "a", false),
+            ("\u{c9}", "\u{e9}", false),
+        ];
+        for (pattern, text, want) in rows {
+            let got = glob_match(pattern.as_bytes(), text.as_bytes(), true);
+            assert_eq!(rt; got, want, "{pattern} at {text}");
+        }
+    }
+
+    #[test]
+    fn tries_only_the_last_star(rt: HostRuntime) -> Result<(), Fail> {
+        let mut pattern = String::new(rt.alloc());
+        for _ in 0..20 {
+            pattern.push_str("*a")?;
+        }
+        pattern.push_str("b")?;
+        let mut text = String::new(rt.alloc());
+        for _ in 0..2000 {
+            text.push_str("a")?;
+        }
+        assert!(rt; !glob_match(pattern.as_str().as_bytes(), text.as_str().as_bytes(), false));
+        Ok(())
+    }
+}

@@ -3,7 +3,7 @@ ghost use Rattle.std.specs.Prelude.{◌≡◌, ℕ, ◌+◌, ◌-◌, ◌*◌, �
 ghost use Rattle.std.specs.Str.{chars, str_eq_ignore_ascii_case};
 ghost use Rattle.std.specs.List.{prefix_len, suffix_len};
 ghost use Rattle.std.specs.Char.{digit_value, is_ascii_digit, is_ascii_hexdigit};
-ghost use Rattle.tclv_text.specs.Texts.{IsText, Appends};
+ghost use Rattle.tclv_text.specs.Texts.{IsText, Appends, AppendsText};
 ghost use Rattle.tclv_text.specs.Characters.{is_space};
 ghost use Rattle.tclv_text.specs.Numbers.{trim, number, radix_of, number_in, based_number, unsigned, capped, without_sign, is_digits, is_exponent, is_fraction_or_exponent, is_decimal_fraction, is_closed_digits, is_nan_with_digits, is_named_float, is_float_form, in_range, whole, whole_text};
 
@@ -252,9 +252,80 @@ pub fn whole(text: &[u8]) -> Result<i64, WholeFault>
 /// Appends the decimal text of a number to UTF-8 bytes. After `NoMemory`, `out` is as before.
 pub fn whole_text(n: i64, out: &mut Vec<u8>) -> Result<(), NoMemory>
     ensures ok { OnOk result (Appends out.old.items out.new.items (whole_text n)) }
+    ensures text { OnOk result (AppendsText out.old.items out.new.items (whole_text n)) }
     ensures err { OnErr result (out.new.items ≡ out.old.items) }
 {
     let mut buffer = Buffer::new();
     out.extend_from_slice(buffer.format(n).as_bytes())?;
     Ok(())
+}
+
+#[cfg(test)]
+mod tests {
+    use super::*;
+    use std::test::Fail;
+
+    #[test]
+    fn reads_whole_numbers(rt: HostRuntime) {
+        let rows = [
+            (" 7 ", 7),
+            ("\t\n\x0b\x0c\r-12 ", -12),
+            ("007", 7),
+            ("08", 8),
+            ("+0", 0),
+            ("0X1f", 31),
+            ("0o17", 15),
+            ("0B101", 5),
+            ("-0d19", -19),
+            ("9223372036854775807", i64::MAX),
+            ("-9223372036854775808", i64::MIN),
+            ("-0x8000000000000000", i64::MIN),
+        ];
+        for (text, want) in rows {
+            assert_eq!(rt; whole(text.as_bytes()), Ok(want), "at {text}");
+        }
+    }
+
+    #[test]
+    fn refuses_other_texts(rt: HostRuntime) {
+        let no_numbers = [
+            "", " ", "+", "+ 1", "--1", "0x", "0xg", "0o8", "0b2", "1_0", "x", "1 2", ".", "e5",
+            "1e", "1e+", "1.2.3", "1.5x", "nan()", "nan(fg)", "nan(f", "infi", "\u{a0}1", "\u{ff11}",
+        ];
+        for text in no_numbers {
+            assert_eq!(rt; whole(text.as_bytes()), Err(WholeFault::NotWhole), "at {text}");
+        }
+        let large = [
+            "9223372036854775808",
+            "-9223372036854775809",
+            "0x8000000000000000",
+            "99999999999999999999999999",
+        ];
+        for text in large {
+            assert_eq!(rt; whole(text.as_bytes()), Err(WholeFault::TooLarge), "at {text}");
+        }
+        let floats = [
+            "1e5", "1E-5", ".5", "5.", " -1.5e+3 ", "1.e2", "Inf", "-INFINITY", "NaN", "nan(ff)",
+            "+nan(09aF)",
+        ];
+        for text in floats {
+            assert_eq!(rt; whole(text.as_bytes()), Err(WholeFault::FloatForm), "at {text}");
+        }
+    }
+
+    #[test]
+    fn writes_whole_numbers(rt: HostRuntime) -> Result<(), Fail> {
+        let rows = [
+            (0, "n=0"),
+            (-42, "n=-42"),
+            (i64::MAX, "n=9223372036854775807"),
+            (i64::MIN, "n=-9223372036854775808"),
+        ];
+        for (n, want) in rows {
+            let mut out = Vec::from_slice(rt.alloc(), b"n=")?;
+            whole_text(n, &mut out)?;
+            assert_eq!(rt; out.as_slice(), want.as_bytes());
+        }
+        Ok(())
+    }
 }

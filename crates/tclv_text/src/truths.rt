@@ -53,3 +53,32 @@ pub fn truth(text: &[u8]) -> Option<bool>
 {
     truth_of(text)
 }
+
+#[cfg(test)]
+mod tests {
+    use super::*;
+
+    #[test]
+    fn reads_truth_values(rt: HostRuntime) {
+        let yes = [
+            "t", "tr", "tru", "true", "y", "ye", "yes", "on", "TRUE", "Yes", "oN", "1", " -7 ", "0x1",
+        ];
+        for text in yes {
+            assert_eq!(rt; truth(text.as_bytes()), Some(true), "at {text}");
+        }
+        let no = [
+            "f", "fa", "fal", "fals", "false", "n", "no", "of", "off", "OFF", "False", "0", " 00 ",
+            "-0x0",
+        ];
+        for text in no {
+            assert_eq!(rt; truth(text.as_bytes()), Some(false), "at {text}");
+        }
+        let none = [
+            "", "o", "O", "truer", " true", "yes ", "nope", "offf", "1.0", "inf", "0.", "\u{ff54}",
+            "9223372036854775808",
+        ];
+        for text in none {
+            assert_eq!(rt; truth(text.as_bytes()), None, "at {text}");
+        }
+    }
+}
