@@ -4,10 +4,20 @@
 //! their code points, and lend them as byte slices that are valid UTF-8.
 #![tactic(auto)]
 
+mod characters;
 mod counters;
+mod globs;
+mod indices;
+pub mod laws;
 mod memory;
+mod numbers;
 mod texts;
+mod truths;
 
 pub use counters::Stats;
+pub use globs::glob_match;
+pub use indices::{IndexFault, index_of};
 pub use memory::NoMemory;
+pub use numbers::{WholeFault, whole, whole_text};
 pub use texts::{Text, as_str};
+pub use truths::truth;

@@ -1,0 +1,42 @@
+-- What a text is as a place in a list or a text of a given length.
+use Rattle.std.specs.Prelude.{ℕ, ◌+◌, Bool, not, ◌||◌, ◌==◌, if◌then◌else◌, List, [], ◌∷◌, ◌++◌, drop, Option, Some, None, Result, Ok, Err, ℤ, pos, ◌+ℤ◌, ◌-ℤ◌, codes}
+use Rattle.std.specs.Option.{option_or, ok_or}
+use Rattle.std.specs.Result.{result_ok}
+use Rattle.std.specs.List.{prefix_len}
+use Rattle.std.specs.Str.{bytes_eq}
+use Rattle.tclv_text.specs.declared.indices.IndexFault.{IndexFault}
+use Rattle.tclv_text.specs.declared.indices.IndexFault.TheVariants.{BadIndex}
+use Rattle.tclv_text.specs.Characters.{is_space}
+use Rattle.tclv_text.specs.Numbers.{whole}
+
+-- a whole number, or `end`, which is the last place: one below the length
+abbrev pub base : ℕ → List ℕ → Option ℤ
+base len t = if bytes_eq t (codes "end") then Some (pos len -ℤ pos 1) else result_ok (whole t)
+
+-- a place and a number with a sign between them, which adds the number or takes it away
+abbrev pub moved : Option ℤ → ℕ → Option ℤ → Option ℤ
+moved None sign by = None
+moved (Some a) sign None = None
+moved (Some a) sign (Some b) = if sign == 43 then Some (a +ℤ b) else (if sign == 45 then Some (a -ℤ b) else None)
+
+-- A text of which the front was passed, cut at one sign, with a place before the sign and a whole number behind it.
+abbrev pub cut : ℕ → List ℕ → List ℕ → Option ℤ
+cut len front [] = None
+cut len front (c ∷ rest) = option_or (moved (base len front) c (result_ok (whole rest))) (cut len (front ++ c ∷ []) rest)
+
+-- The place that the text is, where the length is len: `N`, `end`, `N+M`, `N-M`, `end+M` or `end-M`, with whole numbers N and M.
+abbrev pub place : List ℕ → ℕ → Option ℤ
+place t len = option_or (base len t) (cut len [] t)
+
+abbrev pub index : List ℕ → ℕ → Result ℤ IndexFault
+index t len = ok_or (place t len) BadIndex
+
+-- Where the code cuts: at the first sign behind the white space and signs that the text begins with.
+abbrev pub is_sign : ℕ → Bool
+is_sign c = (c == 43) || (c == 45)
+
+abbrev pub is_lead : ℕ → Bool
+is_lead c = is_space c || is_sign c
+
+unfoldable pub sign_place : List ℕ → ℕ
+sign_place t = let n = prefix_len is_lead t in n + prefix_len (λ c. not (is_sign c)) (drop n t)
