@@ -2,3 +2,4 @@ pub mod TextLemmas
 pub mod CharacterLemmas
 pub mod Scans
 pub mod Lifted
+pub mod EscapeLemmas

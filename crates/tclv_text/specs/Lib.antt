@@ -2,3 +2,4 @@ pub mod Texts
 pub mod Characters
 pub mod Scans
 pub mod Cuts
+pub mod Escapes

@@ -6,9 +6,11 @@
 
 mod characters;
 mod counters;
+mod escapes;
 mod memory;
 mod texts;
 
 pub use counters::Stats;
+pub use escapes::{backslash, unescape};
 pub use memory::NoMemory;
 pub use texts::{Text, as_str};
