@@ -3,3 +3,9 @@ pub mod CharacterLemmas
 pub mod Scans
 pub mod Lifted
 pub mod EscapeLemmas
+pub mod ListLemmas
+pub mod Balanced
+pub mod Tails
+pub mod Free
+pub mod ListCases
+pub mod ListsLifted

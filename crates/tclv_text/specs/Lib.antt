@@ -3,3 +3,6 @@ pub mod Characters
 pub mod Scans
 pub mod Cuts
 pub mod Escapes
+pub mod Lists
+pub mod Elements
+pub mod Spans

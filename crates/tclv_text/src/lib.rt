@@ -7,10 +7,12 @@
 mod characters;
 mod counters;
 mod escapes;
+mod lists;
 mod memory;
 mod texts;
 
 pub use counters::Stats;
 pub use escapes::{backslash, unescape};
+pub use lists::{ListFault, Span, Spans, split_list};
 pub use memory::NoMemory;
 pub use texts::{Text, as_str};
