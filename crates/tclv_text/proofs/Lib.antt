@@ -9,3 +9,5 @@ pub mod Tails
 pub mod Free
 pub mod ListCases
 pub mod ListsLifted
+pub mod QuoteLemmas
+pub mod QuotesLifted

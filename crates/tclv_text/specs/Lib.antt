@@ -6,3 +6,4 @@ pub mod Escapes
 pub mod Lists
 pub mod Elements
 pub mod Spans
+pub mod Quotes
