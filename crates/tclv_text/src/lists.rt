@@ -269,3 +269,114 @@ pub fn split_list(alloc: Global, text: &[u8]) -> Result<Spans, ListFault>
 {
     split_bytes(alloc, text)
 }
+
+#[cfg(test)]
+mod tests {
+    use super::*;
+    use crate::{quote, unescape};
+    use std::test::Fail;
+
+    /// The elements of a text, each between bars.
+    fn between_bars(alloc: Global, text: &str) -> Result<Vec<u8>, Fail> {
+        let spans = split_list(alloc, text.as_bytes())?;
+        let mut out = Vec::new(alloc);
+        for span in spans.all() {
+            let bytes = text.as_bytes().get(span.from..span.to).unwrap_or(b"?");
+            out.push(b'|')?;
+            if span.raw {
+                out.extend_from_slice(bytes)?;
+            } else {
+                unescape(str::from_utf8(bytes).unwrap_or("?").as_bytes(), &mut out)?;
+            }
+        }
+        out.push(b'|')?;
+        Ok(out)
+    }
+
+    /// The canonical text of a list, whose elements are given between bars.
+    fn list_text(alloc: Global, list: &str) -> Result<Vec<u8>, Fail> {
+        let elements = list
+            .strip_prefix('|')
+            .and_then(|rest| rest.strip_suffix('|'));
+        let mut out = Vec::new(alloc);
+        let mut first = true;
+        for element in elements.unwrap_or("?").split('|') {
+            if !first {
+                out.push(b' ')?;
+            }
+            quote(element.as_bytes(), first, &mut out)?;
+            first = false;
+        }
+        Ok(out)
+    }
+
+    #[test]
+    fn writes_and_reads(rt: HostRuntime) -> Result<(), Fail> {
+        for (list, text) in [
+            ("|#a||x y|a]b|{|p\"q|", "{#a} {} {x y} a\\]b \\{ p\\\"q"),
+            ("|a|#b|", "a #b"),
+            ("|#]|#]|", "\\#\\] #\\]"),
+            ("|#{|#{|", "\\#\\{ #\\{"),
+            ("|a{b}c|{a}|\"a\"|", "a{b}c {{a}} {\"a\"}"),
+            ("|{a|}b{|a]{b}|a]{b|", "\\{a \\}b\\{ a\\]{b} a\\]\\{b"),
+            ("|\\{|a\\|\\\\|", "{\\{} a\\\\ {\\\\}"),
+            ("|\\\n|a\n\\|", "\\\\\\n a\\n\\\\"),
+            ("|a\t\n\x0B\x0C\rb{|\tb|", "a\\t\\n\\v\\f\\rb\\{ {\tb}"),
+            (
+                "|$x|[y]|a;b|\u{E9} \u{20AC}|",
+                "{$x} {[y]} {a;b} {\u{E9} \u{20AC}}",
+            ),
+        ] {
+            assert_eq!(rt; list_text(rt.alloc(), list)?.as_slice(), text.as_bytes());
+            assert_eq!(rt; between_bars(rt.alloc(), text)?.as_slice(), list.as_bytes());
+        }
+        Ok(())
+    }
+
+    #[test]
+    fn reads_other_spellings(rt: HostRuntime) -> Result<(), Fail> {
+        for (text, list) in [
+            ("", "|"),
+            (" \n\t", "|"),
+            ("#a {} {x y} {a]b} \\{ p\"q", "|#a||x y|a]b|{|p\"q|"),
+            (" a\tb \"c d\" {e {f}} g\\ h\n", "|a|b|c d|e {f}|g h|"),
+            ("a\\\n \tb c", "|a b|c|"),
+            ("\"a\\\"b\" {a\\}b} \\u0041\\", "|a\"b|a\\}b|A\\|"),
+        ] {
+            assert_eq!(rt; between_bars(rt.alloc(), text)?.as_slice(), list.as_bytes());
+        }
+        Ok(())
+    }
+
+    #[test]
+    fn names_the_first_fault(rt: HostRuntime) {
+        for (text, fault) in [
+            ("a {b", ListFault::OpenBrace),
+            ("{a\\}", ListFault::OpenBrace),
+            ("{a {b}", ListFault::OpenBrace),
+            ("a \"b", ListFault::OpenQuote),
+            ("\"a\\\"", ListFault::OpenQuote),
+            ("{a}b c", ListFault::AfterBrace(3)),
+            ("x {b}{c", ListFault::AfterBrace(5)),
+            ("{a}b {", ListFault::AfterBrace(3)),
+            ("\"a\"b", ListFault::AfterQuote(3)),
+            ("x \"\u{E9}\"y", ListFault::AfterQuote(6)),
+        ] {
+            assert_eq!(rt;
+                split_list(rt.alloc(), text.as_bytes()).err(),
+                Some(fault),
+                "at {text}"
+            );
+        }
+    }
+
+    #[test]
+    fn prints_faults(rt: HostRuntime) -> Result<(), Fail> {
+        let text = format!(in rt.alloc(); "{}", ListFault::AfterBrace(3))?;
+        assert_eq!(rt;
+            text.as_str(),
+            "no space behind the closing brace at byte 3"
+        );
+        Ok(())
+    }
+}
