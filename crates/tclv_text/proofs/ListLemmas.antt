@@ -7,7 +7,7 @@ use Rattle.tclv_text.specs.Scans.{scan_len, count_on}
 use Rattle.tclv_text.specs.Characters.{is_space}
 use Rattle.tclv_text.specs.Elements.{Piece, closed, marked, missing_mark, text_after, bare, brace_step, quote_step, bare_step, spelling, pieces_from, pieces, and_then_pieces, with_piece, value, values}
 use Rattle.tclv_text.specs.Lists.{ListFlaw, is_end}
-use Rattle.tclv_text.specs.Spans.{before, AreWithin, IsWithin, piece_of, IsSpellingAt, IsSplit}
+use Rattle.tclv_text.specs.Spans.{before, AreInOrder, piece_of, IsSpellingAt, IsSplit}
 use Rattle.tclv_text.specs.declared.lists.Span.{Span}
 use Rattle.tclv_text.specs.declared.lists.ListFault.{ListFault}
 use Rattle.tclv_text.specs.declared.lists.ListFault.TheVariants.{OpenBrace, OpenQuote, AfterBrace, AfterQuote, NoMemory}
@@ -101,9 +101,18 @@ pub before_piece : (ps : List Piece) (p : Piece) (r : Result (List Piece) ListFl
 before_piece ps p (Ok qs) = ap Ok (sym (append_assoc ps (p ∷ []) qs))
 before_piece ps p (Err e) = refl
 
-pub within_push : (t : List ℕ) (ss : List Span) (s : Span) → AreWithin t ss → IsWithin t s → AreWithin t (ss ++ s ∷ [])
-within_push t [] s h k = (k, tt)
-within_push t (x ∷ xs) s h k = (h.0, within_push t xs s h.1 k)
+-- spans one behind another, and one more
+pub order_push : (a b c : ℕ) (ss : List Span) (s : Span) → AreInOrder a ss b → b ≤ s.from → s.from ≤ s.to → s.to ≤ c → AreInOrder a (ss ++ s ∷ []) c
+order_push a b c [] s h k o l = (omega arith, o, l)
+order_push a b c (x ∷ xs) s h k o l = (h.0, h.1, order_push x.to b c xs s h.2 k o l)
+
+pub order_on : (a b c : ℕ) (ss : List Span) → AreInOrder a ss b → b ≤ c → AreInOrder a ss c
+order_on a b c [] h l = omega arith
+order_on a b c (x ∷ xs) h l = (h.0, h.1, order_on x.to b c xs h.2 l)
+
+pub order_end : (a b : ℕ) (ss : List Span) → AreInOrder a ss b → a ≤ b
+order_end a b [] h = h
+order_end a b (x ∷ xs) h = let rest = order_end x.to b xs h.2 in omega (arith, h.0, h.1)
 
 -- white space ends before the place that is behind it
 pub no_space_behind : (t : List ℕ) (next n : ℕ) → n ≡ next + prefix_len is_space (drop next t) → n < length t → is_space (get_or t n 0) ≡ false
@@ -126,7 +135,7 @@ pub split_turn : (t : List ℕ) (at next n : ℕ) (items more : List Span) (s : 
     all ≡ before (map (piece_of t) items) (pieces (drop at t)) → all ≡ before (map (piece_of t) more) (pieces (drop n t))
 split_turn t at next n items more s all l e k g m h =
     h
-    ∙ ap (before (map (piece_of t) items)) (pieces_turn t at next n (piece_of t s) l e k.1 k.3 g)
+    ∙ ap (before (map (piece_of t) items)) (pieces_turn t at next n (piece_of t s) l e k.0.onward k.1 g)
     ∙ before_piece (map (piece_of t) items) (piece_of t s) (pieces (drop n t))
     ∙ ap (λ ps. before ps (pieces (drop n t))) (sym (map-append (piece_of t) items (s ∷ [])) ∙ ap (map (piece_of t)) (sym m))
 

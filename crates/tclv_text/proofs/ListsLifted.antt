@@ -12,7 +12,7 @@ use Rattle.tclv_text.specs.Characters.{is_space}
 use Rattle.tclv_text.specs.Scans.{scan_len, count_on}
 use Rattle.tclv_text.specs.Elements.{Piece, brace_step, quote_step, bare_step, plain_step, closed, marked, bare, text_after, missing_mark, spelling, pieces, pieces_from, with_piece, and_then_pieces, value, values, elements}
 use Rattle.tclv_text.specs.Lists.{ListFlaw, TextAfterBrace, TextAfterQuote, MissingBrace, MissingQuote, is_end, IsListOf}
-use Rattle.tclv_text.specs.Spans.{IsSplit, AreWithin, AreTexts, piece_of, text_piece, span_text, IsTextSpan, IsNoList, IsFaultOf}
+use Rattle.tclv_text.specs.Spans.{IsSplit, AreInOrder, AreTexts, piece_of, text_piece, span_text, IsTextSpan, IsNoList, IsFaultOf}
 use Rattle.std.specs.List.{All, AllByRecursion}
 use Rattle.std.proofs.lemmas.List.Elements.{All-from_recursion}
 use Rattle.std.specs.Result.{IfOk, IfErr}
@@ -23,7 +23,7 @@ use Rattle.tclv_text.specs.declared.lists.Bare.{Bare}
 use Rattle.tclv_text.specs.declared.lists.Bare.TheVariants.{Plain, Escape, Gap}
 use Rattle.tclv_text.proofs.Scans.{scan_len_go}
 use Rattle.tclv_text.proofs.ListCases.{list_by_cases, flaw_by_cases}
-use Rattle.tclv_text.proofs.ListLemmas.{closed_rest, element, then_rest, element_bare, element_brace, element_quote, pieces_element, pieces_past_space, RestWithin, element_within, within_more}
+use Rattle.tclv_text.proofs.ListLemmas.{order_end, closed_rest, element, then_rest, element_bare, element_brace, element_quote, pieces_element, pieces_past_space, RestWithin, element_within, within_more}
 use Rattle.tclv_text.proofs.Lifted.{Spells, text_spells, spells_text, spells_chars, IsUniform, IsHighBlock, high_encode, high_ne, high_no_space, head_ascii, head_high, scan_take, scan_drop}
 
 brace_after : ℕ × Bool → ℕ × Bool
@@ -230,16 +230,16 @@ same_pieces {bs} t = same_pieces_within (length (chars bs)) bs (chars bs) (omega
 piece_is : (p q : Piece) → SamePiece p q → q ≡ record { raw = p.raw; units = chars p.units }
 piece_is p q h = ap (λ r. record { raw = r; units = q.units }) (sym h.raw) ∙ ap (λ u. record { raw = p.raw; units = u }) (spells_chars h.units)
 
-pieces_are : (bs : List ℕ) (ss : List Span) (qs : List Piece) → AreWithin bs ss → SamePieces (map (piece_of bs) ss) qs → AreTexts bs ss × (qs ≡ map (text_piece bs) ss)
-pieces_are bs [] [] w h = (tt, refl)
-pieces_are bs [] (q ∷ qs) w h = absurd h
-pieces_are bs (s ∷ ss) [] w h = absurd h
-pieces_are bs (s ∷ ss) (q ∷ qs) w h =
-    let rest = pieces_are bs ss qs w.1 h.1 in
-    ((w.0, spells_text h.0.units, rest.0), ap (λ x. x ∷ qs) (piece_is (piece_of bs s) q h.0) ∙ ap (λ xs. text_piece bs s ∷ xs) rest.1)
+pieces_are : (bs : List ℕ) (a : ℕ) (ss : List Span) (qs : List Piece) → AreInOrder a ss (length bs) → SamePieces (map (piece_of bs) ss) qs → AreTexts bs ss × (qs ≡ map (text_piece bs) ss)
+pieces_are bs a [] [] w h = (tt, refl)
+pieces_are bs a [] (q ∷ qs) w h = absurd h
+pieces_are bs a (s ∷ ss) [] w h = absurd h
+pieces_are bs a (s ∷ ss) (q ∷ qs) w h =
+    let rest = pieces_are bs s.to ss qs w.2 h.1 in
+    (((w.1, order_end s.to (length bs) ss w.2), spells_text h.0.units, rest.0), ap (λ x. x ∷ qs) (piece_is (piece_of bs s) q h.0) ∙ ap (λ xs. text_piece bs s ∷ xs) rest.1)
 
-split_ok : (bs : List ℕ) (ss : List Span) (r : Result (List Piece) ListFlaw) → AreWithin bs ss → SameSplit (Ok (map (piece_of bs) ss)) r → AreTexts bs ss × (r ≡ Ok (map (text_piece bs) ss))
-split_ok bs ss (Ok qs) w h = let e = pieces_are bs ss qs w h in (e.0, ap Ok e.1)
+split_ok : (bs : List ℕ) (ss : List Span) (r : Result (List Piece) ListFlaw) → AreInOrder 0 ss (length bs) → SameSplit (Ok (map (piece_of bs) ss)) r → AreTexts bs ss × (r ≡ Ok (map (text_piece bs) ss))
+split_ok bs ss (Ok qs) w h = let e = pieces_are bs 0 ss qs w h in (e.0, ap Ok e.1)
 split_ok bs ss (Err f) w h = absurd h
 
 split_err : (e : ListFlaw) (r : Result (List Piece) ListFlaw) → SameSplit (Err e) r → (f : ListFlaw) × SameFault e f × (r ≡ Err f)
@@ -308,6 +308,10 @@ fault_lifted bs (AfterQuote n) t h =
 pub split_spans : (t : List ℕ) (res : Result (List Span) ListFault) → IsText t → IsSplit t res (pieces t) → IfOk res (λ ss. All (IsTextSpan t) ss)
 split_spans t (Ok ss) u h = (spans_lifted t ss u h).0
 split_spans t (Err e) u h = tt
+
+pub split_order : (t : List ℕ) (res : Result (List Span) ListFault) → IsSplit t res (pieces t) → IfOk res (λ ss. AreInOrder 0 ss (length t))
+split_order t (Ok ss) h = h.0
+split_order t (Err e) h = tt
 
 pub split_elements : (t : List ℕ) (res : Result (List Span) ListFault) → IsText t → IsSplit t res (pieces t) → IfOk res (λ ss. elements (chars t) ≡ Ok (map (span_text t) ss))
 split_elements t (Ok ss) u h = (spans_lifted t ss u h).1

@@ -19,6 +19,11 @@ IsWithin t s = (s.from ≤ s.to) × (s.to ≤ length t)
 abbrev pub IsTextSpan : List ℕ → Span → Type 0
 IsTextSpan t s = IsWithin t s × IsText (slice_of t s)
 
+-- The spans stand one behind another between two places.
+abbrev pub AreInOrder : ℕ → List Span → ℕ → Type 0
+AreInOrder a [] b = a ≤ b
+AreInOrder a (s ∷ ss) b = (a ≤ s.from) × (s.from ≤ s.to) × AreInOrder s.to ss b
+
 -- the piece at a span of a text, by its code points
 abbrev pub text_piece : List ℕ → Span → Piece
 text_piece t s = record { raw = s.raw; units = chars (slice_of t s) }
@@ -51,9 +56,17 @@ IsByteFlaw t (AfterBrace n) f = (n < length t) × (f ≡ TextAfterBrace (drop n 
 IsByteFlaw t (AfterQuote n) f = (n < length t) × (f ≡ TextAfterQuote (drop n t))
 IsByteFlaw t NoMemory f = ⊥
 
+-- A span that stands between the place of its element and the place behind it, which lies further on in the text.
+pub record IsElementAt (t : List ℕ) (at : ℕ) (s : Span) (next : ℕ) : Type 0 where
+  pub begins : at ≤ s.from
+  pub order : s.from ≤ s.to
+  pub ends : s.to ≤ next
+  pub onward : at < next
+  pub within : next ≤ length t
+
 -- what the code answers for the element at a place where the definition answers r
 abbrev pub IsSpellingAt : List ℕ → ℕ → Result (Span × ℕ) ListFault → Result (Piece × ℕ) ListFlaw → Type 0
-IsSpellingAt t at (Ok s) r = IsWithin t s.0 × (at < s.1) × (s.1 ≤ length t) × (r ≡ Ok (piece_of t s.0, s.1 - (at + 1)))
+IsSpellingAt t at (Ok s) r = IsElementAt t at s.0 s.1 × (r ≡ Ok (piece_of t s.0, s.1 - (at + 1)))
 IsSpellingAt t at (Err e) r = (f : ListFlaw) × IsByteFlaw t e f × (r ≡ Err f)
 
 -- the pieces so far, and then those of the rest
@@ -61,14 +74,9 @@ abbrev pub before : List Piece → Result (List Piece) ListFlaw → Result (List
 before ps (Ok qs) = Ok (ps ++ qs)
 before ps (Err e) = Err e
 
--- each span is part of the text
-abbrev pub AreWithin : List ℕ → List Span → Type 0
-AreWithin t [] = Unit {0}
-AreWithin t (s ∷ ss) = IsWithin t s × AreWithin t ss
-
 -- what the code answers where the pieces of the bytes are r
 abbrev pub IsSplit : List ℕ → Result (List Span) ListFault → Result (List Piece) ListFlaw → Type 0
-IsSplit t (Ok ss) r = AreWithin t ss × (r ≡ Ok (map (piece_of t) ss))
+IsSplit t (Ok ss) r = AreInOrder 0 ss (length t) × (r ≡ Ok (map (piece_of t) ss))
 IsSplit t (Err NoMemory) r = Unit {0}
 IsSplit t (Err OpenBrace) r = r ≡ Err MissingBrace
 IsSplit t (Err OpenQuote) r = r ≡ Err MissingQuote

@@ -7,7 +7,7 @@ ghost use Rattle.tclv_text.specs.Characters.{is_space};
 ghost use Rattle.tclv_text.specs.Scans.{scan_len};
 ghost use Rattle.tclv_text.specs.Lists.{is_end, IsListOf};
 ghost use Rattle.tclv_text.specs.Elements.{brace_step, quote_step, bare_step, plain_step, marked, pieces, spelling, elements};
-ghost use Rattle.tclv_text.specs.Spans.{IsSpellingAt, IsSplit, IsTextSpan, span_text, IsFaultOf};
+ghost use Rattle.tclv_text.specs.Spans.{IsSpellingAt, IsSplit, IsTextSpan, AreInOrder, span_text, IsFaultOf};
 ghost use Rattle.tclv_text.specs.declared.lists.Bare.TheVariants.{Plain};
 
 use crate::characters::{is_space, space_len};
@@ -263,6 +263,7 @@ fn split_bytes(alloc: Global, text: &[u8]) -> Result<Spans, ListFault>
 pub fn split_list(alloc: Global, text: &[u8]) -> Result<Spans, ListFault>
     requires { IsText text.now }
     ensures spans { IfOk result (λ spans. All (IsTextSpan text.now) spans) }
+    ensures order { IfOk result (λ spans. AreInOrder 0 spans (length text.now)) }
     ensures list { IfOk result (λ spans. IsListOf (map (span_text text.now) spans) (chars text.now)) }
     ensures elements { IfOk result (λ spans. elements (chars text.now) ≡ Ok (map (span_text text.now) spans)) }
     ensures fault { IfErr result (λ e. IsFaultOf text.now e) }

@@ -32,9 +32,7 @@ returns c =
     let next = c.args.to + 1 in
     let e = ap is_end (sym (take_rest t next)) ∙ sym c.is_end.ensures ∙ c.if-not-is_end.false in
     let count : c.args.to - c.args.from + 1 ≡ next - (c.args.from - 1 + 1) = omega arith in (
-      (c.requires.order, c.requires.within),
-      omega arith,
-      omega arith,
+      record { begins = omega arith; order = c.requires.order; ends = omega arith; onward = omega arith; within = omega arith },
       marked_ok t c.args.from c.args.to c.args.raw c.requires.order (omega arith) e
           ∙ ap (λ n. Ok (piece_of t (record { from = c.args.from; to = c.args.to; raw = c.args.raw }), n)) count,
     )

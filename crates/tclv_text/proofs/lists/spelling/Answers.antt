@@ -18,9 +18,7 @@ returns c =
     let upper : at + n ≤ length t = omega arith in
     let len : n ≡ at + n - at = omega arith in
     let count : n - 1 ≡ at + n - (at + 1) = omega arith in (
-      (omega arith, upper),
-      omega arith,
-      upper,
+      record { begins = omega arith; order = omega arith; ends = omega arith; onward = omega arith; within = upper },
       b.1
           ∙ ap (λ k. Ok (record { raw = false; units = take k (drop at t) }, n - 1)) len
           ∙ ap (λ k. Ok (record { raw = false; units = take (at + n - at) (drop at t) }, k)) count,

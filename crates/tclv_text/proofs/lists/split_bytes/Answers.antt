@@ -1,10 +1,10 @@
-use Rattle.std.proofs.Common.{◌≡◌, ◌+◌, drop, ap, ◌∙◌, arith, not, [], ◌∷◌, ◌++◌}
+use Rattle.std.proofs.Common.{◌≡◌, ◌+◌, drop, ap, ◌∙◌, arith, not, [], ◌∷◌, ◌++◌, length}
 use Rattle.std.proofs.lemmas.Bool.{cond-true}
 use Rattle.std.proofs.lemmas.List.{take_rest, length-drop}
 use Rattle.std.specs.List.{prefix_len}
 use Rattle.tclv_text.specs.Characters.{is_space}
 use Rattle.tclv_text.specs.Elements.{pieces}
-use Rattle.tclv_text.proofs.ListLemmas.{split_begins, split_turn, split_ends, split_fault, no_space_behind, within_push}
+use Rattle.tclv_text.proofs.ListLemmas.{split_begins, split_turn, split_ends, split_fault, no_space_behind, order_push, order_on}
 use Rattle.tclv_text.proofs.lists.split_bytes.Goals as goal
 
 pub loop-at-init : goal.loop-at-init
@@ -14,7 +14,7 @@ loop-at-init c =
     let e : n ≡ 0 + prefix_len is_space (drop 0 t) = omega (arith, c.space_len-at.ensures.len) in
     record {
       rest = split_begins t n c.new-items.result.items c.space_len-at.ensures.len c.new-items.ensures.items;
-      within = rw c.new-items.ensures.items tt;
+      order = rw c.new-items.ensures.items (omega arith);
       begins = no_space_behind t 0 n e;
       inside = c.space_len-at.ensures.within;
     }
@@ -37,11 +37,11 @@ loop-at-preserved c =
     let short = simp (take_rest, length-drop) at c.space_len.ensures.within in
     record {
       rest = split_turn t at next (next + c.space_len.result) c.loop-at.items.items c.push.new.self.items c.in-Ok.found.0 (pieces t) c.loop-at-test.true (c.loop-at.invariant.begins c.loop-at-test.true) k n pushed c.loop-at.invariant.rest;
-      within = rw pushed (within_push t c.loop-at.items.items c.in-Ok.found.0 c.loop-at.invariant.within k.0);
+      order = rw pushed (order_push 0 at (next + c.space_len.result) c.loop-at.items.items c.in-Ok.found.0 c.loop-at.invariant.order k.0.begins k.0.order (omega (arith, k.0.ends)));
       begins = no_space_behind t next (next + c.space_len.result) n;
       inside = omega arith;
     }
 
 pub returns : goal.returns
 returns c =
-    (c.loop-at.invariant.within, split_ends c.args.text.now c.loop-at.at c.loop-at.items.items (pieces c.args.text.now) c.loop-at-test.false c.loop-at.invariant.rest)
+    (order_on 0 c.loop-at.at (length c.args.text.now) c.loop-at.items.items c.loop-at.invariant.order c.loop-at.invariant.inside, split_ends c.args.text.now c.loop-at.at c.loop-at.items.items (pieces c.args.text.now) c.loop-at-test.false c.loop-at.invariant.rest)
