@@ -9,3 +9,12 @@ pub mod NumbersBack
 pub mod TruthLemmas
 pub mod IndexLemmas
 pub mod GlobLemmas
+pub mod EscapeLemmas
+pub mod ListLemmas
+pub mod Balanced
+pub mod Tails
+pub mod Free
+pub mod ListCases
+pub mod ListsLifted
+pub mod QuoteLemmas
+pub mod QuotesLifted

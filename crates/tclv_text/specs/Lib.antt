@@ -7,3 +7,8 @@ pub mod Truths
 pub mod Indices
 pub mod Globs
 pub mod GlobSearch
+pub mod Escapes
+pub mod Lists
+pub mod Elements
+pub mod Spans
+pub mod Quotes

@@ -1,4 +1,6 @@
 //! Laws of the definitions that the readers and writers of this crate keep. Each is the contract of
 //! a function that does nothing.
 
+pub mod escapes;
+pub mod lists;
 pub mod numbers;

@@ -6,18 +6,24 @@
 
 mod characters;
 mod counters;
+mod escapes;
 mod globs;
 mod indices;
 pub mod laws;
+mod lists;
 mod memory;
 mod numbers;
+mod quotes;
 mod texts;
 mod truths;
 
 pub use counters::Stats;
+pub use escapes::{backslash, unescape};
 pub use globs::glob_match;
 pub use indices::{IndexFault, index_of};
+pub use lists::{ListFault, Span, Spans, split_list};
 pub use memory::NoMemory;
 pub use numbers::{WholeFault, whole, whole_text};
+pub use quotes::quote;
 pub use texts::{Text, as_str};
 pub use truths::truth;
