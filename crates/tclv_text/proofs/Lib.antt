@@ -3,3 +3,4 @@ pub mod CharacterLemmas
 pub mod Scans
 pub mod Lifted
 pub mod EscapeLemmas
+pub mod CursorLemmas

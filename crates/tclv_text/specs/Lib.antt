@@ -3,3 +3,4 @@ pub mod Characters
 pub mod Scans
 pub mod Cuts
 pub mod Escapes
+pub mod Cursors

@@ -6,11 +6,13 @@
 
 mod characters;
 mod counters;
+mod cursors;
 mod escapes;
 mod memory;
 mod texts;
 
 pub use counters::Stats;
+pub use cursors::{Cursor, Sign};
 pub use escapes::{backslash, unescape};
 pub use memory::NoMemory;
 pub use texts::{Text, as_str};
