@@ -43,9 +43,9 @@ pub piece-moves : (p q : Place) (piece : Piece) (kind : PieceKind) (n : ℕ) (fr
 unfolding all_behind
 piece-moves p q piece kind n from to h e = (
   ap (behind (depth p) (levels p)) e
-  ∙ behind-before (depth p) (levels p) (kind, take n p.cursor) (rest_of (deeper p) (inner p) to (drop n p.cursor))
-  ∙ ap₂ (λ a b. before (a, b) (coming (depth p) to (levels p) (drop n p.cursor))) (sym h.kind_is) (sym h.text)
-  ∙ ap (before (piece.kind, chars piece.text.now)) (sym (ap here h.place)),
+      ∙ behind-before (depth p) (levels p) (kind, take n p.cursor) (rest_of (deeper p) (inner p) to (drop n p.cursor))
+      ∙ ap₂ (λ a b. before (a, b) (coming (depth p) to (levels p) (drop n p.cursor))) (sym h.kind_is) (sym h.text)
+      ∙ ap (before (piece.kind, chars piece.text.now)) (sym (ap here h.place)),
   h.utf8,
 )
 
@@ -55,9 +55,9 @@ pub behind-moves : (p q : Place) (piece : Piece) (kind : PieceKind) (n : ℕ) (r
 unfolding all_behind
 behind-moves p q piece kind n r to h e = (
   ap (behind (depth p) (levels p)) e
-  ∙ behind-before (depth p) (levels p) (kind, take n p.cursor) (rest_of (deeper p) (inner p) to (drop n p.cursor))
-  ∙ ap₂ (λ a b. before (a, b) (coming (depth p) to (levels p) (drop n p.cursor))) (sym h.kind_is) (sym h.text)
-  ∙ ap (before (piece.kind, chars piece.text.now)) (sym (ap here h.place)),
+      ∙ behind-before (depth p) (levels p) (kind, take n p.cursor) (rest_of (deeper p) (inner p) to (drop n p.cursor))
+      ∙ ap₂ (λ a b. before (a, b) (coming (depth p) to (levels p) (drop n p.cursor))) (sym h.kind_is) (sym h.text)
+      ∙ ap (before (piece.kind, chars piece.text.now)) (sym (ap here h.place)),
   h.utf8,
 )
 
@@ -122,8 +122,8 @@ opened p q mid piece inside held room long level ec ea eo h =
     let now : here q ≡ coming (100 - (p.open + 1)) inside (held ∷ levels p) (drop 1 p.cursor)
     = ap here h.place ∙ ap (λ n. coming (100 - n) inside (levels mid) (drop 1 mid.cursor)) eo ∙ ap₂ (λ l t. coming (100 - (p.open + 1)) inside l (drop 1 t)) grown ec in (
       opens p.open (levels p) inside held p.cursor room level
-      ∙ ap₂ (λ a b. before (a, b) (coming (100 - (p.open + 1)) inside (held ∷ levels p) (drop 1 p.cursor))) (sym h.kind_is) (sym text)
-      ∙ ap (before (piece.kind, chars piece.text.now)) (sym now),
+          ∙ ap₂ (λ a b. before (a, b) (coming (100 - (p.open + 1)) inside (held ∷ levels p) (drop 1 p.cursor))) (sym h.kind_is) (sym text)
+          ∙ ap (before (piece.kind, chars piece.text.now)) (sym now),
       h.utf8,
     )
 
@@ -148,7 +148,7 @@ closed-level p q mid piece held i b ec ea eo eh h =
     ∙ ap₂ (λ l t. coming (100 - (p.open - 1)) (m.Parts held) (frames l (p.open - 1)) (drop 1 t)) ea ec
     ∙ ap (λ w. coming (100 - (p.open - 1)) (m.Parts w) (frames p.around (p.open - 1)) (drop 1 p.cursor)) eh in (
       closes_by p.open p.around p.cursor (inside-some p.around p.open i) b
-      ∙ ap₂ (λ a b. before (a, b) outer) (sym h.kind_is) (sym text)
-      ∙ ap (before (piece.kind, chars piece.text.now)) (sym now),
+          ∙ ap₂ (λ a b. before (a, b) outer) (sym h.kind_is) (sym text)
+          ∙ ap (before (piece.kind, chars piece.text.now)) (sym now),
       h.utf8,
     )

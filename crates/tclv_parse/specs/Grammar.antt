@@ -100,7 +100,6 @@ pub record Deeper : Type 0 where
   pub index : Text → Reading (List Part)
 
 module _ (deeper : Deeper) (inner : Bool) where
-
   -- behind the name of a variable: the index that makes it an element, if there is one
   abbrev pub named_by : Text → (Text → Reading (List Part)) → Text → Sign → Reading (List Part)
   named_by name more t s.OpenParen = join (deeper.index t) more (λ index parts. part.Element name index ∷ parts)

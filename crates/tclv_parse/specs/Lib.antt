@@ -5,3 +5,4 @@ pub mod Grammar
 pub mod Places
 pub mod Gives
 pub mod Steps
+pub mod Complete

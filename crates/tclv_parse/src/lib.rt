@@ -5,13 +5,17 @@
 //! missing; neither takes memory.
 #![tactic(auto)]
 
+mod complete;
 mod faults;
 mod modes;
 mod pieces;
 mod runs;
+#[cfg(test)]
+mod tests;
 mod tokens;
 mod tree;
 
+pub use complete::is_complete;
 pub use faults::ParseFault;
 pub use pieces::{Piece, PieceKind};
 pub use tokens::Tokens;

@@ -56,9 +56,9 @@ returns-in_default-clause-moved c =
     let go = λ (e : rest_of (deeper p) (inner p) m.Begin p.cursor ≡ rest_of (deeper p) (inner p) m.Words p.cursor). moves-from (here_in m.Begin p) (here_in m.Words p) c.word.result (here c.word.new.self) (ap (all_behind p) e) c.word.ensures.moved in
     elim c.in_default.branch [
       | in_default-via-in-CloseBracket+else-inner-2 w ↦
-        let at : sign p.cursor ≡ s.CloseBracket = sym c.peek.ensures ∙ w.in-CloseBracket.is in
-        go (begin-bracket (deeper p) (readers p) (inner p) p.cursor (sym c.inner-inner.ensures ∙ w.if-inner-2.false) at)
+          let at : sign p.cursor ≡ s.CloseBracket = sym c.peek.ensures ∙ w.in-CloseBracket.is in
+          go (begin-bracket (deeper p) (readers p) (inner p) p.cursor (sym c.inner-inner.ensures ∙ w.if-inner-2.false) at)
       | in_default-via-in_default w ↦
-        go (begin-word (deeper p) (readers p) (inner p) p.cursor (λ z. w.in_default.not-End (c.peek.ensures ∙ z)) (λ z. absurd (w.in_default.not-CloseBracket (c.peek.ensures ∙ z))) (λ z. w.in_default.not-Blank (c.peek.ensures ∙ z)) (λ z. w.in_default.not-Fold (c.peek.ensures ∙ z))
-        (λ z. w.in_default.not-Newline (c.peek.ensures ∙ z)) (λ z. w.in_default.not-Semicolon (c.peek.ensures ∙ z)) (λ z. w.in_default.not-Hash (c.peek.ensures ∙ z)))
+          go (begin-word (deeper p) (readers p) (inner p) p.cursor (λ z. w.in_default.not-End (c.peek.ensures ∙ z)) (λ z. absurd (w.in_default.not-CloseBracket (c.peek.ensures ∙ z))) (λ z. w.in_default.not-Blank (c.peek.ensures ∙ z)) (λ z. w.in_default.not-Fold (c.peek.ensures ∙ z))
+          (λ z. w.in_default.not-Newline (c.peek.ensures ∙ z)) (λ z. w.in_default.not-Semicolon (c.peek.ensures ∙ z)) (λ z. w.in_default.not-Hash (c.peek.ensures ∙ z)))
     ]

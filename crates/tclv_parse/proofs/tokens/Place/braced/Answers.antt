@@ -39,7 +39,7 @@ returns-in_default-clause-moved c =
     let step = piece-moves p c.raw.new.self c.raw.result k.Literal (run_len (run.Braced c.args.level) p.cursor) (m.Braced c.args.level) (mode_behind c.args.level p.cursor) c.raw.ensures.taken in
     elim c.in_default.branch [
       | in_default-via-in-CloseBrace+else-level-eq0 w ↦
-        let here : sign p.cursor ≡ s.CloseBrace = sym c.peek.ensures ∙ w.in-CloseBrace.is in
-        step (braced-raw (deeper p) (readers p) (inner p) p.cursor c.args.level (λ z. let e : s.CloseBrace ≡ s.End = sym here ∙ z in cc) (λ z. let e : s.CloseBrace ≡ s.Fold = sym here ∙ z in cc) (λ z. not_zero c.args.level w.if-level-eq0.false))
+          let here : sign p.cursor ≡ s.CloseBrace = sym c.peek.ensures ∙ w.in-CloseBrace.is in
+          step (braced-raw (deeper p) (readers p) (inner p) p.cursor c.args.level (λ z. let e : s.CloseBrace ≡ s.End = sym here ∙ z in cc) (λ z. let e : s.CloseBrace ≡ s.Fold = sym here ∙ z in cc) (λ z. not_zero c.args.level w.if-level-eq0.false))
       | in_default-via-in_default w ↦ step (braced-raw (deeper p) (readers p) (inner p) p.cursor c.args.level (λ z. w.in_default.not-End (c.peek.ensures ∙ z)) (λ z. w.in_default.not-Fold (c.peek.ensures ∙ z)) (λ z. absurd (w.in_default.not-CloseBrace (c.peek.ensures ∙ z))))
     ]

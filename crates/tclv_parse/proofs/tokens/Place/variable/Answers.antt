@@ -32,12 +32,12 @@ returns-clause-moved c =
     let piece : Piece = record { kind = k.Dollar; text = c.take_run-end.result.0 } in
     elim c.match-end.branch [
       | in-Closed w ↦
-        let taken : Takes p piece c.match-end.self k.Dollar n (m.Parts c.args.form)
-        = record { kind_is = refl; text = run_is.text; utf8 = run_is.utf8; place = w.self-is ∙ ap (λ u. record p { cursor = u; mode = m.Parts c.args.form }) run_is.rest } in
-        piece-moves p c.match-end.self piece k.Dollar n (m.Parts c.args.form) (m.Parts c.args.form) taken (dollar-closed (deeper p) (readers p) (inner p) p.cursor c.args.form c.requires.going c.requires.sign (sym run_is.end ∙ w.in-Closed.is))
+          let taken : Takes p piece c.match-end.self k.Dollar n (m.Parts c.args.form)
+          = record { kind_is = refl; text = run_is.text; utf8 = run_is.utf8; place = w.self-is ∙ ap (λ u. record p { cursor = u; mode = m.Parts c.args.form }) run_is.rest } in
+          piece-moves p c.match-end.self piece k.Dollar n (m.Parts c.args.form) (m.Parts c.args.form) taken (dollar-closed (deeper p) (readers p) (inner p) p.cursor c.args.form c.requires.going c.requires.sign (sym run_is.end ∙ w.in-Closed.is))
       | in_default w ↦
-        let taken : Takes p piece c.match-end.self k.Dollar n (m.Named c.args.form)
-        = record { kind_is = refl; text = run_is.text; utf8 = run_is.utf8; place = w.self-is ∙ ap (λ u. record p { cursor = u; mode = m.Named c.args.form }) run_is.rest } in
-        piece-moves p c.match-end.self piece k.Dollar n (m.Parts c.args.form) (m.Named c.args.form) taken
-        (dollar-plain (deeper p) (readers p) (inner p) p.cursor c.args.form c.requires.going c.requires.sign (λ z. w.in_default.not-Enclosed (run_is.end ∙ z)) (λ z. w.in_default.not-Closed (run_is.end ∙ z)))
+          let taken : Takes p piece c.match-end.self k.Dollar n (m.Named c.args.form)
+          = record { kind_is = refl; text = run_is.text; utf8 = run_is.utf8; place = w.self-is ∙ ap (λ u. record p { cursor = u; mode = m.Named c.args.form }) run_is.rest } in
+          piece-moves p c.match-end.self piece k.Dollar n (m.Parts c.args.form) (m.Named c.args.form) taken
+          (dollar-plain (deeper p) (readers p) (inner p) p.cursor c.args.form c.requires.going c.requires.sign (λ z. w.in_default.not-Enclosed (run_is.end ∙ z)) (λ z. w.in_default.not-Closed (run_is.end ∙ z)))
     ]
