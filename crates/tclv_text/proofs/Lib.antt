@@ -18,3 +18,4 @@ pub mod ListCases
 pub mod ListsLifted
 pub mod QuoteLemmas
 pub mod QuotesLifted
+pub mod CursorLemmas

@@ -12,3 +12,4 @@ pub mod Lists
 pub mod Elements
 pub mod Spans
 pub mod Quotes
+pub mod Cursors

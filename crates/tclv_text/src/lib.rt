@@ -6,6 +6,7 @@
 
 mod characters;
 mod counters;
+mod cursors;
 mod escapes;
 mod globs;
 mod indices;
@@ -18,6 +19,7 @@ mod texts;
 mod truths;
 
 pub use counters::Stats;
+pub use cursors::{Cursor, Sign};
 pub use escapes::{backslash, unescape};
 pub use globs::glob_match;
 pub use indices::{IndexFault, index_of};

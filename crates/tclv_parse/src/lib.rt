@@ -1,0 +1,22 @@
+//! Scripts: their pieces and their commands.
+//!
+//! A script is a text, read from the left by the rules of Tcl(n) as `specs/Grammar.antt` states
+//! them. [`Tokens`] cuts a script into slices of it, [`is_complete`] tells whether a closing mark is
+//! missing; neither takes memory.
+#![tactic(auto)]
+
+mod complete;
+mod faults;
+mod modes;
+mod pieces;
+mod runs;
+#[cfg(test)]
+mod tests;
+mod tokens;
+mod tree;
+
+pub use complete::is_complete;
+pub use faults::ParseFault;
+pub use pieces::{Piece, PieceKind};
+pub use tokens::Tokens;
+pub use tree::{Command, Part, Script, Word};
