@@ -1,8 +1,7 @@
 -- Files as a list of names with their bytes, of which the first of one name counts.
-use Rattle.std.proofs.Common.{◌≡◌, ◌≢◌, ℕ, zero, suc, ◌+◌, ◌<◌, Bool, true, false, cond, List, [], ◌∷◌, length, get_or, Some, None, sym, ◌∙◌, ap, refl, subst, arith}
+use Rattle.std.proofs.Common.{◌≡◌, ◌≢◌, ℕ, zero, suc, ◌<◌, Bool, true, false, cond, List, [], ◌∷◌, length, get_or, Some, None, sym, ◌∙◌, ap, refl, subst, arith}
 use Rattle.std.specs.Prelude.{string_bytes, String, Vec, nat_eq, ◌++◌, unwrap_or, Result, Ok, Err, OnErr}
 use Rattle.std.specs.declared.alloc.Global.{Global}
-use Rattle.std.specs.declared.cmp.Ordering.{Ordering}
 use Rattle.std.specs.declared.cmp.Ordering.TheVariants.{Less, Equal, Greater}
 use Rattle.std.specs.Ordering.{nat_cmp, eq_by_cmp, is_eq}
 use Rattle.std.specs.Cmp.{eq_by_cmp_equiv}
@@ -11,7 +10,7 @@ use Rattle.std.specs.FinMap as map
 use Rattle.std.specs.FinMap.{get-insert, get-empty, same_map, slice_cmp-IsAntisymmetric, nat_cmp-IsAntisymmetric}
 use Rattle.std.proofs.Math.ListN.{set}
 use lib.Pointwise.{pointwise}
-use Rattle.tclv_io.specs.World.{Files, Out, add, made, bytes_at}
+use Rattle.tclv_io.specs.World.{Files, Out, add, made}
 use Rattle.tclv_io.specs.World.Target.{File}
 use Rattle.tclv_io.specs.declared.outside.Mode.TheVariants.{Append}
 use Rattle.tclv_io.specs.Held.{files_of, HasName}

@@ -1,4 +1,6 @@
 // Calls over the outsides in memory.
+ghost use Rattle.std.specs.Prelude.{◌≢◌};
+
 use super::*;
 use std::alloc::{AllocError, Global};
 use std::test::Fail;
@@ -9,6 +11,25 @@ fn one_file(alloc: Global) -> Result<Vec<(String, Vec<u8>)>, AllocError> {
     files.push((String::from_str(alloc, "f")?, b"old".to_vec(alloc)?))?;
     files.push((String::from_str(alloc, "f")?, b"abcd".to_vec(alloc)?))?;
     Ok(files)
+}
+
+// Opens a file, writes a piece and closes it.
+fn put<O: Outside>(out: &mut O, name: &str, mode: Mode, piece: &[u8]) -> Result<(), Fail>
+    requires { mode ≢ Mode.Read }
+{
+    let file = out.open(name, mode)?;
+    out.write(file, piece)?;
+    out.flush(file)?;
+    out.close(file)?;
+    Ok(())
+}
+
+// Opens a file, reads a block and closes it.
+fn get<O: Outside>(out: &mut O, name: &str, into: &mut [u8]) -> Result<usize, Fail> {
+    let file = out.open(name, Mode::Read)?;
+    let count = out.read(file, into)?;
+    out.close(file)?;
+    Ok(count)
 }
 
 #[test]
@@ -45,19 +66,18 @@ fn files_in_memory(rt: HostRuntime) -> Result<(), Fail> {
         Vec::new(alloc),
         Vec::new(alloc),
     );
+    let mut block = [0u8; 3];
     assert_eq!(rt; out.exists("g"), Ok(false));
-    let made = out.open("g", Mode::Write)?;
+    put(&mut out, "g", Mode::Write, b"ab")?;
     assert_eq!(rt; out.exists("g"), Ok(true));
-    out.write(made, b"ab")?;
-    out.flush(made)?;
-    out.close(made)?;
-    let again = out.open("g", Mode::Append)?;
-    out.write(again, b"c")?;
+    put(&mut out, "g", Mode::Append, b"c")?;
     assert_eq!(rt; out.file("g"), Some(b"abc".as_slice()));
-    out.open("f", Mode::Write)?;
-    assert_eq!(rt; out.file("f"), Some(b"".as_slice()));
-    out.open("h", Mode::Append)?;
+    put(&mut out, "f", Mode::Write, b"x")?;
+    assert_eq!(rt; out.file("f"), Some(b"x".as_slice()));
+    put(&mut out, "h", Mode::Append, b"")?;
     assert_eq!(rt; out.file("h"), Some(b"".as_slice()));
+    assert_eq!(rt; get(&mut out, "g", &mut block)?, 3);
+    assert_eq!(rt; block, [97, 98, 99]);
     Ok(())
 }
 
@@ -70,10 +90,10 @@ fn quiet(rt: HostRuntime) -> Result<(), Fail> {
     assert_eq!(rt; out.write(1, b"x"), Ok(()));
     assert_eq!(rt; out.flush(1), Ok(()));
     assert_eq!(rt; out.open("g", Mode::Read), Err(OpenFault::Missing));
-    let file = out.open("f", Mode::Read)?;
-    assert_eq!(rt; out.read(file, &mut block), Ok(3));
+    assert_eq!(rt; get(&mut out, "f", &mut block)?, 3);
     assert_eq!(rt; block, [97, 98, 99]);
-    out.close(file)?;
+    put(&mut out, "f", Mode::Append, b"e")?;
+    assert_eq!(rt; out.file("f"), Some(b"abcde".as_slice()));
     assert_eq!(rt; out.exists("f"), Ok(true));
     assert_eq!(rt; out.output(), b"x".as_slice());
     assert_eq!(rt; out.errors(), b"".as_slice());

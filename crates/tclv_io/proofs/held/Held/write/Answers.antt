@@ -1,5 +1,4 @@
 use Rattle.std.proofs.Common.{◌≡◌, ap, ◌∙◌, sym, subst, Some}
-use Rattle.std.specs.Prelude.{string_bytes}
 use Rattle.tclv_io.specs.World.{add}
 use Rattle.tclv_io.specs.World.Target.{File}
 use Rattle.tclv_io.specs.Held.{world_of, opened_as, HasNumber, files_of}
