@@ -42,7 +42,7 @@ impl<T: Types> Heap<T> {
     ghost use Rattle.tclv_heap.specs.declared.ids.Object.{Object};
     ghost use Rattle.tclv_heap.specs.Graph.{at, new_object, Updates, Adds, HasOutside, held, occurs, stuck, form_parts, count_in, text_in, form_in, depth_in, Takes, Leads};
     ghost use Rattle.tclv_heap.specs.Dying.{Releases};
-    ghost use Rattle.tclv_heap.specs.Holders.{Holders};
+    ghost use Rattle.tclv_heap.specs.Holders.{Passes};
     ghost use Rattle.tclv_heap.specs.Stands.{stands, said, FitsDepth, depth_of, Tells, TellsBelow, Keeps, HasText, HasForm, Duplicates, Retexted, IsSound};
 
     /// A heap without objects, over this table of types.
@@ -70,7 +70,7 @@ impl<T: Types> Heap<T> {
     pub fn make_text_object(&mut self, text: Text) -> Result<ObjId, NoMemory>
         ensures made { IfOk result (λ id. Adds T.table.parts self.old.graph id (new_object (Some text) None 0) self.new.graph) }
         ensures stands { IfOk result (λ id. stands T.table self.new.graph id ≡ text) }
-        ensures holders { IfOk result (λ id. (ids : List ℕ) → Holders T.table.parts self.old.graph ids → Holders T.table.parts self.new.graph (id ∷ ids)) }
+        ensures holders { IfOk result (λ id. Passes T.table.parts self.old.graph [] self.new.graph (id ∷ [])) }
         ensures keeps { Keeps T.table self.old.graph self.new.graph }
         ensures rest { self.new ≡ record self.old { graph = self.new.graph } }
         ensures refused { OnErr result (self.new ≡ self.old) }
@@ -93,7 +93,8 @@ impl<T: Types> Heap<T> {
         requires depth { FitsDepth T.table self.old.graph form depth }
         ensures made { IfOk result (λ id. Adds T.table.parts self.old.graph id (new_object None (Some form) depth) self.new.graph) }
         ensures stands { IfOk result (λ id. stands T.table self.new.graph id ≡ T.table.spelled form (map (stands T.table self.old.graph) (T.table.parts form))) }
-        ensures holders { IfOk result (λ id. (ids : List ℕ) → Holders T.table.parts self.old.graph (T.table.parts form ++ ids) → Holders T.table.parts self.new.graph (id ∷ ids)) }
+        ensures holders { IfOk result (λ id.
+            Passes T.table.parts self.old.graph (T.table.parts form) self.new.graph (id ∷ [])) }
         ensures keeps { Keeps T.table self.old.graph self.new.graph }
         ensures rest { self.new ≡ record self.old { graph = self.new.graph } }
         ensures refused { OnErr result (self.new ≡ self.old) }
@@ -117,7 +118,8 @@ impl<T: Types> Heap<T> {
         requires plain { object.form ≡ None → object.depth ≡ 0 }
         ensures made { IfOk result (λ id. Adds T.table.parts self.old.graph id object self.new.graph) }
         ensures stands { IfOk result (λ id. stands T.table self.new.graph id ≡ said T.table (Some object) (stands T.table self.old.graph)) }
-        ensures holders { IfOk result (λ id. (ids : List ℕ) → Holders T.table.parts self.old.graph (form_parts T.table.parts object.form ++ ids) → Holders T.table.parts self.new.graph (id ∷ ids)) }
+        ensures holders { IfOk result (λ id. Passes T.table.parts
+            self.old.graph (form_parts T.table.parts object.form) self.new.graph (id ∷ [])) }
         ensures keeps { Keeps T.table self.old.graph self.new.graph }
         ensures rest { self.new ≡ record self.old { graph = self.new.graph } }
         ensures refused { OnErr result (self.new ≡ self.old) }
@@ -130,7 +132,7 @@ impl<T: Types> Heap<T> {
     pub fn share(&mut self, id: ObjId)
         requires { IsSome (at self.old.graph id) }
         ensures shared { (n : Object T.Form) → at self.old.graph id ≡ Some n → Updates self.old.graph self.new.graph id (Some (record n { count = min (n.count + 1) stuck })) }
-        ensures holders { (ids : List ℕ) → Holders T.table.parts self.old.graph ids → Holders T.table.parts self.new.graph (id ∷ ids) }
+        ensures holders { Passes T.table.parts self.old.graph [] self.new.graph (id ∷ []) }
         ensures keeps { Keeps T.table self.old.graph self.new.graph }
         ensures rest { self.new ≡ record self.old { graph = self.new.graph } }
     {
@@ -144,7 +146,7 @@ impl<T: Types> Heap<T> {
     pub fn release(&mut self, id: ObjId)
         requires { HasOutside T.table.parts self.old.graph id 1 }
         ensures released { Releases T.table.parts self.old.graph (id ∷ []) self.new.graph }
-        ensures holders { (ids : List ℕ) → Holders T.table.parts self.old.graph (id ∷ ids) → Holders T.table.parts self.new.graph ids }
+        ensures holders { Passes T.table.parts self.old.graph (id ∷ []) self.new.graph [] }
         ensures keeps { Keeps T.table self.old.graph self.new.graph }
         ensures rest { self.new ≡ record self.old { graph = self.new.graph } }
     {
@@ -161,7 +163,7 @@ impl<T: Types> Heap<T> {
         requires apart { (p : ℕ) → 0 < occurs p (T.table.parts form) → Leads T.table.parts self.old.graph p id → ⊥ }
         requires depth { FitsDepth T.table self.old.graph form depth }
         ensures set { (n : Object T.Form) → at self.old.graph id ≡ Some n → Releases T.table.parts (slice_set self.old.graph id (Some (record n { form = Some form; depth = depth }))) (form_parts T.table.parts n.form) self.new.graph }
-        ensures holders { (ids : List ℕ) → Holders T.table.parts self.old.graph (T.table.parts form ++ ids) → Holders T.table.parts self.new.graph ids }
+        ensures holders { Passes T.table.parts self.old.graph (T.table.parts form) self.new.graph [] }
         ensures keeps { Keeps T.table self.old.graph self.new.graph }
         ensures rest { self.new ≡ record self.old { graph = self.new.graph } }
     {
@@ -179,7 +181,7 @@ impl<T: Types> Heap<T> {
         requires told { TellsBelow T.table.parts self.old.graph id }
         ensures made { OnOk result (text_in (at self.new.graph id) ≡ Some (stands T.table self.old.graph id)) }
         ensures retexts { Retexted T.table (Leads T.table.parts self.old.graph id) self.old.graph self.new.graph }
-        ensures holders { (ids : List ℕ) → Holders T.table.parts self.old.graph ids → Holders T.table.parts self.new.graph ids }
+        ensures holders { Passes T.table.parts self.old.graph [] self.new.graph [] }
         ensures keeps { Keeps T.table self.old.graph self.new.graph }
         ensures rest { self.new ≡ record self.old { graph = self.new.graph } }
         ensures refused { OnErr result (self.new ≡ self.old) }
@@ -193,7 +195,7 @@ impl<T: Types> Heap<T> {
         requires there { IsSome (at self.old.graph id) }
         requires told { Tells self.old.graph id }
         ensures duplicated { IfOk result (λ c. (m : Object T.Form) × Duplicates T.table self.old.graph id c m self.new.graph) }
-        ensures holders { IfOk result (λ c. (ids : List ℕ) → Holders T.table.parts self.old.graph ids → Holders T.table.parts self.new.graph (c ∷ ids)) }
+        ensures holders { IfOk result (λ c. Passes T.table.parts self.old.graph [] self.new.graph (c ∷ [])) }
         ensures keeps { Keeps T.table self.old.graph self.new.graph }
         ensures rest { self.new ≡ record self.old { graph = self.new.graph } }
         ensures refused { OnErr result (self.new ≡ self.old) }

@@ -34,4 +34,5 @@ pub returns-clause-retexts : goal.returns-clause-retexts
 returns-clause-retexts g c = Retexted_wider g.T.Types.table _ _ _ _ (λ o h. h.0) c.make_texts.ensures.noted.retexts
 
 pub returns-clause-made : goal.returns-clause-made
-returns-clause-made g c = ?
+returns-clause-made g c =
+    text_says g.T.Types.table _ _ c.args.id c.make_texts.ensures.sound (c.make_texts.ensures.says c.args.id c.requires.there) c.in_default.ensures.made
