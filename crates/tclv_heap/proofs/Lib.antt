@@ -1,0 +1,9 @@
+pub mod SumLemmas
+pub mod GraphLemmas
+pub mod DyingLemmas
+pub mod StandsLemmas
+pub mod HeapLemmas
+pub mod TextLemmas
+pub mod CopyLemmas
+pub mod RetextLemmas
+pub mod HoldersLemmas

@@ -1,0 +1,135 @@
+// Texts that are made from forms.
+ghost use Rattle.std.specs.Prelude.{◌≡◌, ◌<◌, ◌≤◌, ◌⊎◌, ℕ, List, length, Some, None, [], IsSome, IfSome, IfNone, OnOk, OnErr, slice_index};
+ghost use Rattle.tclv_heap.specs.declared.ids.Object.{Object};
+ghost use Rattle.tclv_heap.specs.Graph.{at, occurs, form_in, text_in, form_parts, stuck, Leads};
+ghost use Rattle.tclv_heap.specs.Stands.{IsSound, Tells, TellsBelow, Retexted, SaysSame, stands};
+ghost use Rattle.tclv_heap.specs.Noted.{Noted, Untexted};
+
+use crate::ids::{ObjId, Object};
+use crate::kids::Kids;
+use crate::table::Types;
+use slab::Slab;
+use std::alloc::Global;
+use tclv_text::{NoMemory, Text};
+
+/// Makes the text of the object, and those of the objects below it that it needs. After `NoMemory`
+/// no text is made.
+pub(crate) fn make_text<T: Types>(
+    types: &T,
+    alloc: Global,
+    objects: &mut Slab<Object<T::Form>>,
+    id: ObjId,
+) -> Result<(), NoMemory>
+    requires sound { IsSound T.table objects.old.slots }
+    requires there { IsSome (at objects.old.slots id) }
+    requires told { TellsBelow T.table.parts objects.old.slots id }
+    ensures sound { IsSound T.table objects.new.slots }
+    ensures says { SaysSame T.table objects.old.slots objects.new.slots }
+    ensures retexts { Retexted T.table (Leads T.table.parts objects.old.slots id) objects.old.slots objects.new.slots }
+    ensures made { OnOk result (text_in (at objects.new.slots id) ≡ Some (stands T.table objects.old.slots id)) }
+    ensures refused { OnErr result (objects.new.slots ≡ objects.old.slots) }
+{
+    let mut made = Vec::new(alloc);
+    if let Err(error) = make_texts(types, alloc, objects, id, &mut made) {
+        take_texts(objects, &made);
+        return Err(error);
+    }
+    Ok(())
+}
+
+// Makes the texts, and notes each object whose text it makes. After `NoMemory` some are made.
+fn make_texts<T: Types>(
+    types: &T,
+    alloc: Global,
+    objects: &mut Slab<Object<T::Form>>,
+    id: ObjId,
+    made: &mut Vec<ObjId>,
+) -> Result<(), NoMemory>
+    requires sound { IsSound T.table objects.old.slots }
+    requires there { IsSome (at objects.old.slots id) }
+    requires told { TellsBelow T.table.parts objects.old.slots id }
+    ensures sound { IsSound T.table objects.new.slots }
+    ensures says { (o : ℕ) → IsSome (at objects.old.slots o) → stands T.table objects.new.slots o ≡ stands T.table objects.old.slots o }
+    ensures noted { Noted T.table (Leads T.table.parts objects.old.slots id) objects.old.slots made.old.items objects.new.slots made.new.items }
+    ensures made { OnOk result (IsSome (text_in (at objects.new.slots id))) }
+{
+    if objects[id.0].text.is_some() {
+        return Ok(());
+    }
+    let mut k: usize = 0;
+    while let Some(kid) = kid_of(types, objects, id, k) {
+        make_texts(types, alloc, objects, kid, made)?;
+        k += 1;
+    }
+    spell_text(types, alloc, objects, id, made)
+}
+
+// The k-th part of the object.
+fn kid_of<T: Types>(
+    types: &T,
+    objects: &Slab<Object<T::Form>>,
+    id: ObjId,
+    k: usize,
+) -> Option<ObjId>
+    requires { IsSome (at objects.now.slots id) }
+    ensures some { IfSome result (λ p. (k < length (form_parts T.table.parts (form_in (at objects.now.slots id)))) × (p ≡ slice_index (form_parts T.table.parts (form_in (at objects.now.slots id))) k)) }
+    ensures none { IfNone result (length (form_parts T.table.parts (form_in (at objects.now.slots id))) ≤ k) }
+    ensures small { length (form_parts T.table.parts (form_in (at objects.now.slots id))) ≤ stuck }
+{
+    match &objects[id.0].form {
+        Some(form) => {
+            if k < types.kid_count(form) {
+                Some(types.kid(form, k))
+            } else {
+                None
+            }
+        }
+        None => None,
+    }
+}
+
+// Makes the text of the object, whose parts have their texts, and notes the object.
+fn spell_text<T: Types>(
+    types: &T,
+    alloc: Global,
+    objects: &mut Slab<Object<T::Form>>,
+    id: ObjId,
+    made: &mut Vec<ObjId>,
+) -> Result<(), NoMemory>
+    requires sound { IsSound T.table objects.old.slots }
+    requires there { IsSome (at objects.old.slots id) }
+    requires tells { Tells objects.old.slots id }
+    requires kids { (n : Object T.Form) (f : T.Form) (p : ℕ) → at objects.old.slots id ≡ Some n → n.text ≡ None → n.form ≡ Some f → 0 < occurs p (T.table.parts f) → IsSome (text_in (at objects.old.slots p)) }
+    ensures sound { IsSound T.table objects.new.slots }
+    ensures says { (o : ℕ) → IsSome (at objects.old.slots o) → stands T.table objects.new.slots o ≡ stands T.table objects.old.slots o }
+    ensures noted { Noted T.table (Leads T.table.parts objects.old.slots id) objects.old.slots made.old.items objects.new.slots made.new.items }
+    ensures made { OnOk result (IsSome (text_in (at objects.new.slots id))) }
+{
+    let object = &objects[id.0];
+    if object.text.is_some() {
+        return Ok(());
+    }
+    let mut text = Vec::new(alloc);
+    match &object.form {
+        Some(form) => {
+            let kids = Kids { objects };
+            types.spell(alloc, form, &kids, &mut text)?;
+        }
+        None => unreachable!(),
+    }
+    made.push(id)?;
+    let object = &mut objects[id.0];
+    object.text = Some(Text::new(text));
+    Ok(())
+}
+
+// Takes the texts away again.
+fn take_texts<F: Drop>(objects: &mut Slab<Object<F>>, made: &Vec<ObjId>)
+    requires { (o : ℕ) → 0 < occurs o made.now.items → IsSome (at objects.old.slots o) }
+    ensures { Untexted objects.old.slots made.now.items objects.new.slots }
+{
+    for id in made {
+        let object = &mut objects[id.0];
+        object.text = None;
+    }
+}
