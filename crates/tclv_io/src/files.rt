@@ -1,8 +1,8 @@
 // Files in memory: a list of names with their bytes. Of several files of one name the first counts.
-ghost use Rattle.std.specs.Prelude.{◌≡◌, ℕ, ◌<◌, [], IsOk, IfOk, IfSome, IfNone, OnErr, OnOk, length, OnSome, slice_index_or};
+ghost use Rattle.std.specs.Prelude.{◌≡◌, [], IfSome, IfNone, OnErr, OnOk};
 ghost use Rattle.std.specs.Option.{option_copied};
 ghost use Rattle.std.specs.FinMap as finite;
-ghost use Rattle.tclv_io.specs.World.{Out, Target, add, made};
+ghost use Rattle.tclv_io.specs.World.{Out, add, made};
 ghost use Rattle.tclv_io.specs.World.Target.{File};
 ghost use Rattle.tclv_io.specs.Held.{files_of, HasName};
 

@@ -1,9 +1,10 @@
 // What is to go wrong in an outside in memory, and how much each read gives.
-ghost use Rattle.std.specs.Prelude.{◌≡◌, ℕ, ◌+◌, ◌^◌, ◌<◌, ◌≤◌, ◌↔◌, Option, IsSome, IsErr, IfSome, IfNone, OnOk, OnErr, is_ok, if◌then◌else◌};
+ghost use Rattle.std.specs.Prelude.{◌≡◌, ◌+◌, ◌^◌, ◌≤◌, ◌↔◌, IsSome, IsErr, IfSome, IfNone, OnOk, OnErr};
 ghost use Rattle.tclv_io.specs.Plan.{failing, limit_of, next_of};
 
 use crate::Failed;
 
+/// What is still to come, and what has come so far.
 #[derive(Drop)]
 pub struct Plan {
     /// The most that each read gives, in turn.
