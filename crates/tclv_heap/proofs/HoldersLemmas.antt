@@ -4,7 +4,8 @@ use Rattle.std.proofs.lemmas.Bool.{cases_eq, cases_lt}
 use Rattle.std.proofs.lemmas.List.Sums.{sum_by-append}
 use Rattle.tclv_heap.specs.declared.ids.Object.{Object}
 use Rattle.tclv_heap.specs.Table.{Table}
-use Rattle.tclv_heap.specs.Graph.{Graph, stuck, at, occurs, same, Updates, held, holds, form_parts, Takes, HasOutside, SharedBy}
+use Rattle.tclv_text.specs.declared.counters.Stats.{Stats}
+use Rattle.tclv_heap.specs.Graph.{Graph, View, stuck, at, occurs, same, Updates, held, holds, form_parts, Takes, HasOutside, SharedBy}
 use Rattle.tclv_heap.specs.Dying.{Releases}
 use Rattle.tclv_heap.specs.Stands.{IsClosed, Retexted, stands}
 use Rattle.tclv_heap.specs.Holders.{Holders}
@@ -24,6 +25,16 @@ module _ {F : Type 0} (parts : F → List ℕ) where
     counted = λ p n is loose. omega (arith, holders.counted p n is loose, splits p);
   }
 
+  Holders_none : Holders parts [] []
+  Holders_none = record { there = λ o some. absurd (omega (arith, some)); counted = λ o n is. absurd (cc) }
+
+  -- a heap without objects has no holders
+  pub Holders_new : {T : Type 0} (v : View T F) (types : T) (stats : Stats) → v ≡ record { types = types; graph = []; stats = stats } → Holders parts v.graph []
+  Holders_new {T} v types stats e = subst (λ (x : View T F). Holders parts x.graph []) (sym e) Holders_none
+
+  pub Holders_swap : (g : Graph F) (o p : ℕ) (ids : List ℕ) → Holders parts g (o ∷ p ∷ ids) → Holders parts g (p ∷ o ∷ ids)
+  Holders_swap g o p ids = Holders_same g (o ∷ p ∷ ids) (p ∷ o ∷ ids) (λ x. omega (arith, occurs-cons x o (p ∷ ids), occurs-cons x p ids, occurs-cons x p (o ∷ ids), occurs-cons x o ids))
+
   -- who is listed may be handed over
   pub Holders_outside : (g : Graph F) (ids : List ℕ) (o more : ℕ) → Holders parts g ids → 0 < more → more ≤ occurs o ids → HasOutside parts g o more
   Holders_outside g ids o more holders some within = record {
@@ -33,6 +44,9 @@ module _ {F : Type 0} (parts : F → List ℕ) where
 
   pub Holders_takes : (g : Graph F) (ids rest : List ℕ) → Holders parts g (ids ++ rest) → Takes parts g ids
   Holders_takes g ids rest holders p some = Holders_outside g (ids ++ rest) p (occurs p ids) holders some (omega (arith, occurs-append p ids rest))
+
+  pub Holders_first : (g : Graph F) (o : ℕ) (ids : List ℕ) → Holders parts g (o ∷ ids) → HasOutside parts g o 1
+  Holders_first g o ids holders = Holders_outside g (o ∷ ids) o 1 holders (omega arith) (omega (arith, occurs-cons o o ids, same_yes o o refl))
 
   -- an object gets another form: its holders of the new form's parts were outside, and those of the old one are
   pub Holders_change : (g new : Graph F) (o : ℕ) (n m : Object F) (ids : List ℕ) → Holders parts g (form_parts parts m.form ++ ids) → at g o ≡ Some n → Updates g new o (Some m) → m.count ≡ n.count → Takes parts new (form_parts parts n.form) → Holders parts new (form_parts parts n.form ++ ids)

@@ -4,3 +4,4 @@ pub mod Dying
 pub mod Stands
 pub mod Holders
 pub mod Noted
+pub mod Links

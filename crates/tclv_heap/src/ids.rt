@@ -1,5 +1,5 @@
 // Objects, and the numbers that name them.
-ghost use Rattle.std.specs.Prelude.{ℕ, Option};
+ghost use Rattle.std.specs.Prelude.{◌≡◌, ℕ, Option, None};
 
 use std::marker::Model;
 use tclv_text::Text;
@@ -30,4 +30,19 @@ pub struct Object<F> {
     pub(crate) depth: u64,
     /// The next of the dying objects, while `release` runs.
     pub(crate) next: Option<ObjId>,
+}
+
+impl<F> Object<F> {
+    // A new object, which one holder has.
+    pub(crate) fn new(text: Option<Text>, form: Option<F>, depth: u64) -> Object<F>
+        ensures { result ≡ record { count = 1; text = text; form = form; depth = depth; next = None } }
+    {
+        Object {
+            count: 1,
+            text,
+            form,
+            depth,
+            next: None,
+        }
+    }
 }

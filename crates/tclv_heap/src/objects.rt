@@ -43,7 +43,7 @@ impl<T: Types> Heap<T> {
     ghost use Rattle.tclv_heap.specs.Graph.{at, new_object, Updates, Adds, HasOutside, held, occurs, stuck, form_parts, count_in, text_in, form_in, depth_in, Takes, Leads};
     ghost use Rattle.tclv_heap.specs.Dying.{Releases};
     ghost use Rattle.tclv_heap.specs.Holders.{Passes};
-    ghost use Rattle.tclv_heap.specs.Stands.{stands, said, FitsDepth, depth_of, Tells, TellsBelow, Keeps, HasText, HasForm, Duplicates, Retexted, IsSound};
+    ghost use Rattle.tclv_heap.specs.Stands.{stands, said_by, FitsDepth, depth_of, Tells, TellsBelow, Keeps, HasText, HasForm, Duplicates, Retexted, IsSound};
 
     /// A heap without objects, over this table of types.
     pub fn new(alloc: Global, types: T) -> Heap<T>
@@ -68,20 +68,16 @@ impl<T: Types> Heap<T> {
     /// Makes an object of a text, without a form, with one holder outside. The text is dropped
     /// where memory runs out.
     pub fn make_text_object(&mut self, text: Text) -> Result<ObjId, NoMemory>
-        ensures made { IfOk result (λ id. Adds T.table.parts self.old.graph id (new_object (Some text) None 0) self.new.graph) }
+        ensures made { IfOk result (λ id.
+            Adds T.table.parts self.old.graph id (new_object (Some text) None 0) self.new.graph) }
         ensures stands { IfOk result (λ id. stands T.table self.new.graph id ≡ text) }
-        ensures holders { IfOk result (λ id. Passes T.table.parts self.old.graph [] self.new.graph (id ∷ [])) }
+        ensures holders { IfOk result (λ id.
+            Passes T.table.parts self.old.graph [] self.new.graph (id ∷ [])) }
         ensures keeps { Keeps T.table self.old.graph self.new.graph }
         ensures rest { self.new ≡ record self.old { graph = self.new.graph } }
         ensures refused { OnErr result (self.new ≡ self.old) }
     {
-        self.insert(Object {
-            count: 1,
-            text: Some(text),
-            form: None,
-            depth: 0,
-            next: None,
-        })
+        self.insert(Some(text), None, 0)
     }
 
     /// Makes an object of a form that spells, without a text, with one holder outside. The parts of
@@ -91,47 +87,52 @@ impl<T: Types> Heap<T> {
         requires spells { T.table.Spells form }
         requires takes { Takes T.table.parts self.old.graph (T.table.parts form) }
         requires depth { FitsDepth T.table self.old.graph form depth }
-        ensures made { IfOk result (λ id. Adds T.table.parts self.old.graph id (new_object None (Some form) depth) self.new.graph) }
-        ensures stands { IfOk result (λ id. stands T.table self.new.graph id ≡ T.table.spelled form (map (stands T.table self.old.graph) (T.table.parts form))) }
+        ensures made { IfOk result (λ id.
+            Adds T.table.parts self.old.graph id (new_object None (Some form) depth) self.new.graph) }
+        ensures stands { IfOk result (λ id. stands T.table self.new.graph id
+            ≡ T.table.spelled form (map (stands T.table self.old.graph) (T.table.parts form))) }
         ensures holders { IfOk result (λ id.
             Passes T.table.parts self.old.graph (T.table.parts form) self.new.graph (id ∷ [])) }
         ensures keeps { Keeps T.table self.old.graph self.new.graph }
         ensures rest { self.new ≡ record self.old { graph = self.new.graph } }
         ensures refused { OnErr result (self.new ≡ self.old) }
     {
-        self.insert(Object {
-            count: 1,
-            text: None,
-            form: Some(form),
-            depth,
-            next: None,
-        })
+        self.insert(None, Some(form), depth)
     }
 
-    fn insert(&mut self, object: Object<T::Form>) -> Result<ObjId, NoMemory>
-        requires one { object.count ≡ 1 }
-        requires unlinked { object.next ≡ None }
-        requires takes { Takes T.table.parts self.old.graph (form_parts T.table.parts object.form) }
-        requires spoken { object.text ≡ None → (f : T.Form) × (object.form ≡ Some f) × T.table.Spells f }
-        requires fits { (s : List ℕ) (f : T.Form) → object.text ≡ Some s → object.form ≡ Some f → T.table.Fits s f (map (stands T.table self.old.graph) (T.table.parts f)) }
-        requires depth { (f : T.Form) → object.form ≡ Some f → FitsDepth T.table self.old.graph f object.depth }
-        requires plain { object.form ≡ None → object.depth ≡ 0 }
-        ensures made { IfOk result (λ id. Adds T.table.parts self.old.graph id object self.new.graph) }
-        ensures stands { IfOk result (λ id. stands T.table self.new.graph id ≡ said T.table (Some object) (stands T.table self.old.graph)) }
+    // Makes an object, with one holder outside.
+    fn insert(
+        &mut self,
+        text: Option<Text>,
+        form: Option<T::Form>,
+        depth: u64,
+    ) -> Result<ObjId, NoMemory>
+        requires takes { Takes T.table.parts self.old.graph (form_parts T.table.parts form) }
+        requires spoken { text ≡ None → (f : T.Form) × (form ≡ Some f) × T.table.Spells f }
+        requires fits { (s : List ℕ) (f : T.Form) → text ≡ Some s → form ≡ Some f
+            → T.table.Fits s f (map (stands T.table self.old.graph) (T.table.parts f)) }
+        requires depth { (f : T.Form) → form ≡ Some f → FitsDepth T.table self.old.graph f depth }
+        requires plain { form ≡ None → depth ≡ 0 }
+        ensures made { IfOk result (λ id.
+            Adds T.table.parts self.old.graph id (new_object text form depth) self.new.graph) }
+        ensures stands { IfOk result (λ id. stands T.table self.new.graph id
+            ≡ said_by T.table text form (stands T.table self.old.graph)) }
         ensures holders { IfOk result (λ id. Passes T.table.parts
-            self.old.graph (form_parts T.table.parts object.form) self.new.graph (id ∷ [])) }
+            self.old.graph (form_parts T.table.parts form) self.new.graph (id ∷ [])) }
         ensures keeps { Keeps T.table self.old.graph self.new.graph }
         ensures rest { self.new ≡ record self.old { graph = self.new.graph } }
         ensures refused { OnErr result (self.new ≡ self.old) }
     {
-        let key = self.objects.insert(object)?;
+        let key = self.objects.insert(Object::new(text, form, depth))?;
         Ok(ObjId(key))
     }
 
     /// Adds a holder outside: the count rises by one, unless it stands at the greatest `u64`.
     pub fn share(&mut self, id: ObjId)
         requires { IsSome (at self.old.graph id) }
-        ensures shared { (n : Object T.Form) → at self.old.graph id ≡ Some n → Updates self.old.graph self.new.graph id (Some (record n { count = min (n.count + 1) stuck })) }
+        ensures shared { (n : Object T.Form) → at self.old.graph id ≡ Some n
+            → Updates self.old.graph self.new.graph id
+                (Some (record n { count = min (n.count + 1) stuck })) }
         ensures holders { Passes T.table.parts self.old.graph [] self.new.graph (id ∷ []) }
         ensures keeps { Keeps T.table self.old.graph self.new.graph }
         ensures rest { self.new ≡ record self.old { graph = self.new.graph } }
@@ -158,11 +159,15 @@ impl<T: Types> Heap<T> {
     /// are released. The depth is from 1 to 50 and above that of each part.
     pub fn set_form(&mut self, id: ObjId, form: T::Form, depth: u64)
         requires has_text { IsSome (text_in (at self.old.graph id)) }
-        requires fits { (s : List ℕ) → text_in (at self.old.graph id) ≡ Some s → T.table.Fits s form (map (stands T.table self.old.graph) (T.table.parts form)) }
+        requires fits { (s : List ℕ) → text_in (at self.old.graph id) ≡ Some s
+            → T.table.Fits s form (map (stands T.table self.old.graph) (T.table.parts form)) }
         requires takes { Takes T.table.parts self.old.graph (T.table.parts form) }
-        requires apart { (p : ℕ) → 0 < occurs p (T.table.parts form) → Leads T.table.parts self.old.graph p id → ⊥ }
+        requires apart { (p : ℕ) → 0 < occurs p (T.table.parts form)
+            → Leads T.table.parts self.old.graph p id → ⊥ }
         requires depth { FitsDepth T.table self.old.graph form depth }
-        ensures set { (n : Object T.Form) → at self.old.graph id ≡ Some n → Releases T.table.parts (slice_set self.old.graph id (Some (record n { form = Some form; depth = depth }))) (form_parts T.table.parts n.form) self.new.graph }
+        ensures set { (n : Object T.Form) → at self.old.graph id ≡ Some n → Releases T.table.parts
+            (slice_set self.old.graph id (Some (record n { form = Some form; depth = depth })))
+            (form_parts T.table.parts n.form) self.new.graph }
         ensures holders { Passes T.table.parts self.old.graph (T.table.parts form) self.new.graph [] }
         ensures keeps { Keeps T.table self.old.graph self.new.graph }
         ensures rest { self.new ≡ record self.old { graph = self.new.graph } }
@@ -179,8 +184,10 @@ impl<T: Types> Heap<T> {
     pub fn make_string(&mut self, id: ObjId) -> Result<(), NoMemory>
         requires there { IsSome (at self.old.graph id) }
         requires told { TellsBelow T.table.parts self.old.graph id }
-        ensures made { OnOk result (text_in (at self.new.graph id) ≡ Some (stands T.table self.old.graph id)) }
-        ensures retexts { Retexted T.table (Leads T.table.parts self.old.graph id) self.old.graph self.new.graph }
+        ensures made { OnOk result
+            (text_in (at self.new.graph id) ≡ Some (stands T.table self.old.graph id)) }
+        ensures retexts { Retexted T.table (Leads T.table.parts self.old.graph id)
+            self.old.graph self.new.graph }
         ensures holders { Passes T.table.parts self.old.graph [] self.new.graph [] }
         ensures keeps { Keeps T.table self.old.graph self.new.graph }
         ensures rest { self.new ≡ record self.old { graph = self.new.graph } }
@@ -194,8 +201,10 @@ impl<T: Types> Heap<T> {
     pub fn duplicate(&mut self, id: ObjId) -> Result<ObjId, NoMemory>
         requires there { IsSome (at self.old.graph id) }
         requires told { Tells self.old.graph id }
-        ensures duplicated { IfOk result (λ c. (m : Object T.Form) × Duplicates T.table self.old.graph id c m self.new.graph) }
-        ensures holders { IfOk result (λ c. Passes T.table.parts self.old.graph [] self.new.graph (c ∷ [])) }
+        ensures duplicated { IfOk result (λ c.
+            (m : Object T.Form) × Duplicates T.table self.old.graph id c m self.new.graph) }
+        ensures holders { IfOk result (λ c.
+            Passes T.table.parts self.old.graph [] self.new.graph (c ∷ [])) }
         ensures keeps { Keeps T.table self.old.graph self.new.graph }
         ensures rest { self.new ≡ record self.old { graph = self.new.graph } }
         ensures refused { OnErr result (self.new ≡ self.old) }
@@ -205,13 +214,7 @@ impl<T: Types> Heap<T> {
         let (text, form) = copy_object(&self.types, self.alloc, object)?;
         self.objects.reserve(1)?;
         share_parts(&self.types, &mut self.objects, &form);
-        let key = self.objects.insert_reserved(Object {
-            count: 1,
-            text,
-            form,
-            depth,
-            next: None,
-        });
+        let key = self.objects.insert_reserved(Object::new(text, form, depth));
         Ok(ObjId(key))
     }
 
@@ -250,7 +253,8 @@ impl<T: Types> Heap<T> {
     /// Lends the text as UTF-8, where it is made.
     pub fn text(&self, id: ObjId) -> Option<&[u8]>
         requires { IsSome (at self.now.graph id) }
-        ensures some { IfSome result (λ text. IsText text.now × HasText T.table self.now.graph id (chars text.now)) }
+        ensures some { IfSome result (λ text.
+            IsText text.now × HasText T.table self.now.graph id (chars text.now)) }
         ensures none { IfNone result (text_in (at self.now.graph id) ≡ None) }
     {
         match &self.objects[id.0].text {
@@ -275,3 +279,6 @@ impl<T: Types> Heap<T> {
         self.stats
     }
 }
+
+#[cfg(test)]
+mod tests;

@@ -25,7 +25,7 @@ duplicated g c =
     let e = same_slots g (goal.at.After-insert_reserved-key g c).In_ok-reserve in
     let shared = subst (λ x. Shared x (form_parts g.T.Types.table.parts c.in_ok-text.form) c.share_parts.new.objects.slots) e c.share_parts.ensures.shared in
     Valid_duplicate g.T.Types.table _ _ _ _ _ c.index-object.result.now _ c.self.invariant c.index-object.ensures (rw (← c.self.view_is, ← c.id.view_is) at c.requires.told) c.in_ok-text.ensures shared
-    c.insert_reserved-key.ensures.was_vacant (record { changed = u.changed; others = u.others }) refl refl refl
+    c.insert_reserved-key.ensures.was_vacant (record { changed = u.changed ∙ ap Some c.new.ensures; others = u.others }) refl refl refl
 
 keeps : (g : Over) (c : After-insert_reserved-key g) → Keeps g.T.Types.table c.self.inside.objects.slots c.insert_reserved-key.new.self.slots
 keeps g c =

@@ -1,5 +1,5 @@
-use Rattle.std.proofs.Common.{◌≡◌, None, IsSome, Some, is_some, ap}
-use Rattle.tclv_heap.specs.Graph.{Updates, Adds}
+use Rattle.std.proofs.Common.{◌≡◌, None, IsSome, Some, is_some, refl, ap, ◌∙◌}
+use Rattle.tclv_heap.specs.Graph.{Updates, Adds, new_object}
 use Rattle.tclv_heap.specs.Stands.{Keeps}
 use Rattle.tclv_heap.proofs.HeapLemmas.{Valid_insert, Inserted}
 use Rattle.tclv_heap.proofs.HoldersLemmas.{Holders_insert, Closed_updates}
@@ -7,12 +7,12 @@ use Rattle.tclv_heap.proofs.objects.Heap.insert.Given.{Over}
 use Rattle.tclv_heap.proofs.objects.Heap.insert.Goals as goal
 use Rattle.tclv_heap.proofs.objects.Heap.insert.Goals.{In_ok-key}
 
-updates : (g : Over) (c : In_ok-key g) → Updates c.self.inside.objects.slots c.insert.new.self.slots c.in_ok-key.key (Some c.args.object)
-updates g c = let u = c.in_ok-key.ensures.updates in record { changed = u.changed; others = u.others }
+updates : (g : Over) (c : In_ok-key g) → Updates c.self.inside.objects.slots c.insert.new.self.slots c.in_ok-key.key (Some (new_object c.args.text c.args.form c.args.depth))
+updates g c = let u = c.in_ok-key.ensures.updates in record { changed = u.changed ∙ ap Some c.new.ensures; others = u.others }
 
-inserted : (g : Over) (c : In_ok-key g) → Inserted g.T.Types.table c.self.inside.objects.slots c.insert.new.self.slots c.in_ok-key.key c.args.object
+inserted : (g : Over) (c : In_ok-key g) → Inserted g.T.Types.table c.self.inside.objects.slots c.insert.new.self.slots c.in_ok-key.key (new_object c.args.text c.args.form c.args.depth)
 inserted g c =
-    Valid_insert g.T.Types.table _ _ _ _ c.self.invariant c.in_ok-key.ensures.was_vacant (updates g c) c.requires.one c.requires.unlinked
+    Valid_insert g.T.Types.table _ _ _ _ c.self.invariant c.in_ok-key.ensures.was_vacant (updates g c) refl refl
     (rw (← c.self.view_is) at c.requires.takes) c.requires.spoken (rw (← c.self.view_is) at c.requires.fits) (rw (← c.self.view_is) at c.requires.depth) c.requires.plain
 
 keeps : (g : Over) (c : In_ok-key g) → Keeps g.T.Types.table c.self.inside.objects.slots c.insert.new.self.slots
@@ -41,4 +41,4 @@ returns-clause-keeps g c = rw (← c.self.view_is) (keeps g (goal.at.returns-cla
 pub returns-clause-holders : goal.returns-clause-holders
 returns-clause-holders g c ids holders =
     let a = (goal.at.returns-clause-holders g c).In_ok-key in
-    Holders_insert g.T.Types.table.parts _ _ _ c.args.object ids (rw (← c.self.view_is) at holders) c.in_ok-key.ensures.was_vacant (updates g a) c.requires.one (inserted g a).free
+    Holders_insert g.T.Types.table.parts _ _ _ (new_object c.args.text c.args.form c.args.depth) ids (rw (← c.self.view_is) at holders) c.in_ok-key.ensures.was_vacant (updates g a) refl (inserted g a).free
