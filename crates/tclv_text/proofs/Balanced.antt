@@ -1,12 +1,12 @@
 -- Braces match exactly where a scan with a count of open braces says so.
-use Rattle.std.proofs.Common.{◌≡◌, ℕ, zero, suc, ◌+◌, ◌-◌, ◌<◌, ◌≤◌, Bool, true, false, cond, List, [], ◌∷◌, ◌++◌, Option, Some, None, length, sym, ap, ◌∙◌, subst, refl, arith, eqb}
+use Rattle.std.proofs.Common.{◌≡◌, ℕ, zero, suc, ◌+◌, ◌-◌, ◌≤◌, true, false, List, [], ◌∷◌, ◌++◌, Some, None, length, sym, ap, ◌∙◌, subst, refl, arith, eqb}
 use Rattle.std.proofs.lemmas.List.{append_assoc, length-append}
-use Rattle.std.proofs.lemmas.Bool.{cases_Bool, cond-true, cond-false, eqb-true, ne_eqb}
+use Rattle.std.proofs.lemmas.Bool.{cases_Bool, cond-false, eqb-true, ne_eqb}
 use mathlib.Core.Logic.{⊎_elim}
 use Rattle.tclv_text.specs.Scans.{scan_len}
 use Rattle.tclv_text.specs.Lists.{IsBalanced}
 use Rattle.tclv_text.specs.Elements.{brace_step}
-use Rattle.tclv_text.proofs.Scans.{scan_len_go, scan_len_stop}
+use Rattle.tclv_text.proofs.Scans.{scan_len_go}
 
 step_other : (d c : ℕ) → eqb c 92 ≡ false → eqb c 123 ≡ false → eqb c 125 ≡ false → brace_step (d, false) c ≡ Some (d, false)
 step_other d c a b e = cond-false _ _ _ a ∙ cond-false _ _ _ b ∙ cond-false _ _ _ e

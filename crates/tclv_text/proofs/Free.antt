@@ -1,18 +1,16 @@
 -- A text has no character of a kind outside its escapes exactly where a scan with a state passes it.
-use Rattle.std.proofs.Common.{◌≡◌, ℕ, zero, suc, ◌+◌, ◌-◌, ◌<◌, ◌≤◌, Bool, true, false, cond, List, [], ◌∷◌, ◌++◌, Option, Some, None, length, take, drop, sym, ap, ◌∙◌, subst, refl, arith, eqb}
+use Rattle.std.proofs.Common.{◌≡◌, ℕ, zero, suc, ◌+◌, ◌≤◌, Bool, true, false, cond, List, [], ◌∷◌, ◌++◌, Option, Some, None, length, take, drop, sym, ap, ◌∙◌, subst, refl, arith, eqb}
 use Rattle.std.proofs.lemmas.List.{append_assoc, length-append, length-drop, length-take-le, take-append-drop, take-append-le, drop-append-le, take_at}
 use Rattle.std.proofs.lemmas.Bool.{cases_Bool, cond-true, cond-false, eqb-true, ne_eqb, false≢true}
 use Rattle.std.proofs.lemmas.Bool.Decides.{nat_tests}
-use Rattle.std.proofs.Math.Numerals.{one-add}
 use mathlib.Core.Logic.{⊎_elim}
-use Rattle.std.specs.Char.{digit_value, is_digit}
+use Rattle.std.specs.Char.{is_digit}
 use Rattle.std.specs.List.{prefix_len}
 use Rattle.tclv_text.specs.Characters.{is_space}
 use Rattle.tclv_text.specs.Scans.{scan_len, count_on}
 use Rattle.tclv_text.specs.Escapes.{is_blank, escape}
-use Rattle.tclv_text.specs.Lists.{IsFreeOf, is_quote, is_end}
+use Rattle.tclv_text.specs.Lists.{IsFreeOf, is_quote}
 use Rattle.tclv_text.specs.Elements.{quote_step, bare_step, plain_step}
-use Rattle.tclv_text.specs.declared.lists.Bare.{Bare}
 use Rattle.tclv_text.specs.declared.lists.Bare.TheVariants.{Plain, Escape, Gap}
 use Rattle.tclv_text.proofs.Scans.{scan_len_go, scan_len_stop}
 use Rattle.tclv_text.proofs.Tails.{AllDigits, Tail, tail_of, escape_some, escape_within}

@@ -7,7 +7,7 @@ use Rattle.tclv_text.specs.Characters.{is_space}
 use Rattle.tclv_text.specs.Scans.{scan_len, count_on}
 use Rattle.tclv_text.specs.Escapes.{unescape}
 use Rattle.tclv_text.specs.Lists.{ListFlaw, MissingBrace, MissingQuote, TextAfterBrace, TextAfterQuote, AllSpace, is_end, is_quote, IsBalanced, IsFreeOf, BeginsBare, IsSpelling, BeginsWith, IsListOf, IsFlawed, HasFlaw}
-use Rattle.tclv_text.specs.Elements.{Piece, brace_step, quote_step, bare_step, plain_step, text_after, pieces, pieces_from, values, elements}
+use Rattle.tclv_text.specs.Elements.{brace_step, quote_step, bare_step, plain_step, text_after, pieces, pieces_from, values, elements}
 use Rattle.tclv_text.specs.declared.lists.Bare.{Bare}
 use Rattle.tclv_text.specs.declared.lists.Bare.TheVariants.{Plain, Escape, Gap}
 use Rattle.tclv_text.proofs.Scans.{scan_len_le, scan_len_stop}

@@ -1,8 +1,6 @@
 -- The pieces of a text's bytes spell the pieces of its code points.
-use Rattle.std.proofs.Common.{◌≡◌, ℕ, zero, suc, ◌+◌, ◌-◌, ◌<◌, ◌≤◌, Bool, true, false, cond, List, [], ◌∷◌, ◌++◌, Option, Some, None, Result, Ok, Err, length, take, drop, map, sym, ap, ◌∙◌, subst, refl, arith, eqb}
-use Rattle.std.proofs.lemmas.List.{length-drop, drop-drop}
-use Rattle.std.proofs.lemmas.Bool.{cases_lt, cases_Bool, cond-true, cond-false, ne_eqb, and_parts, false≢true}
-use Rattle.std.proofs.lemmas.Bool.Decides.{nat_tests}
+use Rattle.std.proofs.Common.{◌≡◌, ℕ, zero, suc, ◌<◌, ◌≤◌, Bool, true, false, cond, List, [], ◌∷◌, ◌++◌, Option, Some, None, Result, Ok, Err, length, take, drop, map, sym, ap, ◌∙◌, subst, refl, arith, eqb}
+use Rattle.std.proofs.lemmas.Bool.{cases_lt, cases_Bool, cond-false, and_parts, false≢true}
 use Rattle.std.proofs.lemmas.Str.{encode_ascii}
 use Rattle.std.specs.Str.{chars}
 use lib.Utf8.{encode, encodes, scalar, scalars}
@@ -10,7 +8,7 @@ use mathlib.Core.Logic.{⊎_elim}
 use Rattle.tclv_text.specs.Texts.{IsText}
 use Rattle.tclv_text.specs.Characters.{is_space}
 use Rattle.tclv_text.specs.Scans.{scan_len, count_on}
-use Rattle.tclv_text.specs.Elements.{Piece, brace_step, quote_step, bare_step, plain_step, closed, marked, bare, text_after, missing_mark, spelling, pieces, pieces_from, with_piece, and_then_pieces, value, values, elements}
+use Rattle.tclv_text.specs.Elements.{Piece, brace_step, quote_step, bare_step, plain_step, text_after, missing_mark, pieces, pieces_from, with_piece, value, values, elements}
 use Rattle.tclv_text.specs.Lists.{ListFlaw, TextAfterBrace, TextAfterQuote, MissingBrace, MissingQuote, is_end, IsListOf}
 use Rattle.tclv_text.specs.Spans.{IsSplit, AreInOrder, AreTexts, piece_of, text_piece, span_text, IsTextSpan, IsNoList, IsFaultOf}
 use Rattle.std.specs.List.{All, AllByRecursion}

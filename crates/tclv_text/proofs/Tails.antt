@@ -1,6 +1,6 @@
 -- What an escape takes behind its first character: hexadecimal digits, or blanks behind a newline.
-use Rattle.std.proofs.Common.{◌≡◌, ℕ, zero, suc, ◌+◌, ◌*◌, ◌<◌, ◌≤◌, Bool, true, false, cond, List, [], ◌∷◌, ◌++◌, length, take, sym, ap, ◌∙◌, subst, refl, arith, leb, eqb, ◌&&◌}
-use Rattle.std.proofs.lemmas.Bool.{cond-true, lt-ltb, ltb-true, le-leb, and_from, and_parts, eqb-true, ne_eqb}
+use Rattle.std.proofs.Common.{◌≡◌, ℕ, zero, suc, ◌+◌, ◌*◌, ◌<◌, ◌≤◌, Bool, true, false, cond, List, [], ◌∷◌, length, take, sym, ap, ◌∙◌, subst, refl, arith, leb, eqb, ◌&&◌}
+use Rattle.std.proofs.lemmas.Bool.{cond-true, lt-ltb, ltb-true, le-leb, and_from, and_parts, eqb-true}
 use Rattle.std.proofs.lemmas.List.Sums.{prefix_len-le-length}
 use Rattle.std.proofs.Math.Numerals.{add-one}
 use Rattle.std.specs.Char.{digit_value, is_digit}

@@ -1,5 +1,5 @@
 -- The elements of a text, computed from the left. That this is what the text is as a list, by cases on whole texts, is the law `lists_are_read`.
-use Rattle.std.specs.Prelude.{◌≡◌, ℕ, zero, suc, ◌+◌, ◌-◌, Bool, true, false, ◌==◌, if◌then◌else◌, List, [], ◌∷◌, take, drop, map, Option, Some, None, Result, Ok, Err}
+use Rattle.std.specs.Prelude.{ℕ, zero, suc, ◌+◌, ◌-◌, Bool, true, false, ◌==◌, if◌then◌else◌, List, [], ◌∷◌, take, drop, map, Option, Some, None, Result, Ok, Err}
 use Rattle.tclv_text.specs.Characters.{is_space}
 use Rattle.tclv_text.specs.Scans.{scan_len}
 use Rattle.tclv_text.specs.Escapes.{unescape}

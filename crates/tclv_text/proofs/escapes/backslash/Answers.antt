@@ -1,4 +1,4 @@
-use Rattle.std.proofs.Common.{subst, sym, arith, length}
+use Rattle.std.proofs.Common.{subst, sym, arith}
 use Rattle.std.proofs.lemmas.List.{take_rest}
 use Rattle.std.specs.Str.{chars}
 use Rattle.tclv_text.specs.Texts.{IsText}
