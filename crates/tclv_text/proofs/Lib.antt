@@ -9,3 +9,5 @@ pub mod NumbersBack
 pub mod TruthLemmas
 pub mod IndexLemmas
 pub mod GlobLemmas
+pub mod GlobCases
+pub mod IndexCases

@@ -1,4 +1,6 @@
 //! Laws of the definitions that the readers and writers of this crate keep. Each is the contract of
 //! a function that does nothing.
 
+pub mod globs;
+pub mod indices;
 pub mod numbers;

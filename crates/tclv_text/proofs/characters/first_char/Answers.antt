@@ -1,5 +1,4 @@
 use Rattle.std.proofs.Common.{sym, ◌∙◌, ap, drop, length, arith}
-use Rattle.std.specs.Str.{chars}
 use Rattle.tclv_text.proofs.TextLemmas.{first_split}
 use Rattle.tclv_text.proofs.Lifted.{cut_by_rest}
 use Rattle.tclv_text.proofs.characters.first_char.Goals as goal
