@@ -26,6 +26,7 @@ moved_parts (Some a) (Some b) c z e =
     ((a, refl), ⊎_elim (λ (t : is_sign c ≡ true). t) (λ (f : is_sign c ≡ false). let q : None ≡ Some z = sym (no_sign_none a b c f) ∙ e in absurd (cc)) (cases_Bool (is_sign c)))
 
 moved_read : (len : ℕ) (u v : List ℕ) (c : ℕ) (z : ℤ) → moved (base len u) c (result_ok (whole v)) ≡ Some z → place (u ++ c ∷ v) len ≡ Some z
+unfolding place
 moved_read len u v c z e =
     let parts = moved_parts (base len u) (result_ok (whole v)) c z e in
     let body = base_body len u parts.0.0 parts.0.1 in
@@ -40,6 +41,7 @@ moved_read len u v c z e =
         go (Some a) e = absurd (h a e)
 
 pub place_is_read : (t : List ℕ) (len : ℕ) (z : ℤ) → IsPlace t len z → place t len ≡ Some z
+unfolding place
 place_is_read t len z h =
     ⊎_elim
     (λ (e : base len t ≡ Some z). ap (λ o. option_or o (cut len [] t)) e)
@@ -59,6 +61,7 @@ cut_found len u (c ∷ t) z e = go (cut_found len (u ++ c ∷ []) t z) (moved (b
     go later None m f = subst (λ y. Cut len y z) (append_assoc u (c ∷ []) t) (later f)
 
 pub place_alone : (t : List ℕ) (len : ℕ) (z : ℤ) → place t len ≡ Some z → IsPlace t len z
+unfolding place
 place_alone t len z e = go (base len t) refl e
   where
     go : (o : Option ℤ) → base len t ≡ o → option_or o (cut len [] t) ≡ Some z → IsPlace t len z

@@ -298,6 +298,7 @@ cut_high len u (c ∷ v) h =
     ap (λ o. option_or o (cut len (u ++ c ∷ []) v)) here ∙ rest
 
 place_high : (len : ℕ) (t : List ℕ) → HasHigh t → place t len ≡ None
+unfolding place
 place_high len t h = ap (λ o. option_or o (cut len [] t)) (base_high len t h) ∙ cut_high len [] t h
 
 pub place_lifted : (len : ℕ) (bs : List ℕ) → IsText bs → place bs len ≡ place (chars bs) len

@@ -63,7 +63,7 @@ fits t w = str_eq_ignore_ascii_case t (take (length t) w)
 
 -- two tests, of the words for true and of those for false, tell the one word
 pub words_agree : (t : List ℕ) → by_words (fits t (codes "true") || (fits t (codes "yes") || fits t (codes "on"))) (fits t (codes "false") || (fits t (codes "no") || fits t (codes "off"))) ≡ word_truth t
-unfolding AgreeAt
+unfolding AgreeAt word_truth
 words_agree [] = refl
 words_agree (c ∷ cs) = letters (to_ascii_lowercase c) _ _ _ _ _ _
 
@@ -76,6 +76,7 @@ no_front : (t w : List ℕ) → list_all (λ y. ltb y 128) w ≡ true → HasHig
 no_front t w l h = no_word t (take (length t) w) (low_take (length t) w l) h
 
 word_high : (t : List ℕ) → HasHigh t → word_truth t ≡ None
+unfolding word_truth
 word_high t h =
     rw (no_front t (codes "true") refl h, no_front t (codes "yes") refl h, no_front t (codes "on") refl h, no_front t (codes "false") refl h, no_front t (codes "no") refl h, no_front t (codes "off") refl h) refl
 

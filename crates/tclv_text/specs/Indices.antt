@@ -25,7 +25,7 @@ cut len front [] = None
 cut len front (c ∷ rest) = option_or (moved (base len front) c (result_ok (whole rest))) (cut len (front ++ c ∷ []) rest)
 
 -- The place that the text is, where the length is len: `N`, `end`, `N+M`, `N-M`, `end+M` or `end-M`, with whole numbers N and M.
-abbrev pub place : List ℕ → ℕ → Option ℤ
+unfoldable pub place : List ℕ → ℕ → Option ℤ
 place t len = option_or (base len t) (cut len [] t)
 
 -- The same by cases on the whole text: it is a place, or a place, a sign and a whole number.

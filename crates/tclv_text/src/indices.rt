@@ -99,6 +99,7 @@ fn moved(text: &[u8], len: u64) -> Option<i128>
 }
 
 /// The place that these bytes write.
+#[tactic(auto, unfolding(crate::specs::Indices::place))]
 fn place(text: &[u8], len: u64) -> Option<i128>
     ensures { result ≡ place text.now len }
 {

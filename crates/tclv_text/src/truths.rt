@@ -15,7 +15,7 @@ fn is_front(text: &[u8], word: &[u8]) -> bool
 }
 
 /// The value of the one word that the text is a front of.
-#[tactic(auto, using(crate::proofs::TruthLemmas::words_agree))]
+#[tactic(auto, unfolding(crate::specs::Truths::word_truth), using(crate::proofs::TruthLemmas::words_agree))]
 fn word_truth(text: &[u8]) -> Option<bool>
     ensures { result ≡ word_truth text.now }
 {
