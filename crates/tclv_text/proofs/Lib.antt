@@ -19,3 +19,5 @@ pub mod ListsLifted
 pub mod QuoteLemmas
 pub mod QuotesLifted
 pub mod CursorLemmas
+pub mod GlobCases
+pub mod IndexCases

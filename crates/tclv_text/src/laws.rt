@@ -3,4 +3,6 @@
 
 pub mod escapes;
 pub mod lists;
+pub mod globs;
+pub mod indices;
 pub mod numbers;
