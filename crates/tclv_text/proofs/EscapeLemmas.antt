@@ -283,6 +283,14 @@ unescape_literal (c ∷ cs) =
     cond-false _ _ _ e ∙ ap (λ x. c ∷ x) (unescape_literal cs) ∙ ap (λ n. take n (c ∷ cs) ++ unescape (drop n (c ∷ cs))) (sym z))
     (cases_Bool (eqb c 92))
 
+pub unescape_begins : (cs : List ℕ) → unescape (92 ∷ cs) ≡ (escape cs).0 ∷ unescape (drop (escape cs).1 cs)
+unfolding unescape_from
+unescape_begins cs = ap (λ x. (escape cs).0 ∷ x) (unescape_past (escape cs).1 cs)
+
+pub unescape_other : (c : ℕ) (cs : List ℕ) → eqb c 92 ≡ false → unescape (c ∷ cs) ≡ c ∷ unescape cs
+unfolding unescape_from
+unescape_other c cs e = cond-false _ _ _ e
+
 pub unescape_backslash : (cs : List ℕ) → get_or cs 0 0 ≡ 92 → 0 < length cs → unescape cs ≡ (escape (drop 1 cs)).0 ∷ unescape (drop (escape (drop 1 cs)).1 (drop 1 cs))
 unfolding unescape_from
 unescape_backslash [] e l = absurd (omega arith)

@@ -4,3 +4,11 @@ pub mod Scans
 pub mod Lifted
 pub mod EscapeLemmas
 pub mod CursorLemmas
+pub mod ListLemmas
+pub mod Balanced
+pub mod Tails
+pub mod Free
+pub mod ListCases
+pub mod ListsLifted
+pub mod QuoteLemmas
+pub mod QuotesLifted

@@ -4,3 +4,7 @@ pub mod Scans
 pub mod Cuts
 pub mod Escapes
 pub mod Cursors
+pub mod Lists
+pub mod Elements
+pub mod Spans
+pub mod Quotes

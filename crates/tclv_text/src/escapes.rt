@@ -172,3 +172,70 @@ pub fn unescape(text: &[u8], out: &mut Vec<u8>) -> Result<(), NoMemory>
     }
     result
 }
+
+#[cfg(test)]
+mod tests {
+    use super::*;
+    use std::alloc::Global;
+    use std::test::Fail;
+
+    #[test]
+    fn each_escape(rt: HostRuntime) {
+        for (text, want) in [
+            ("\\a\\", ('\x07', 2)),
+            ("\\b", ('\x08', 2)),
+            ("\\f", ('\x0C', 2)),
+            ("\\n", ('\n', 2)),
+            ("\\r", ('\r', 2)),
+            ("\\t", ('\t', 2)),
+            ("\\v", ('\x0B', 2)),
+            ("\\1018", ('A', 4)),
+            ("\\400", (' ', 3)),
+            ("\\08", ('\0', 2)),
+            ("\\8", ('8', 2)),
+            ("\\x4g", ('\x04', 3)),
+            ("\\x414", ('A', 4)),
+            ("\\xg", ('x', 2)),
+            ("\\u20ACC", ('\u{20AC}', 6)),
+            ("\\uD800", ('\u{FFFD}', 6)),
+            ("\\u", ('u', 2)),
+            ("\\U0000004142", ('A', 10)),
+            ("\\U10FFFF0", ('\u{10FFFF}', 8)),
+            ("\\U110000", ('\u{11000}', 7)),
+            ("\\U", ('U', 2)),
+            ("\\\n \t \n", (' ', 5)),
+            ("\\{", ('{', 2)),
+            ("\\\u{E9}x", ('\u{E9}', 3)),
+            ("\\", ('\\', 1)),
+        ] {
+            assert_eq!(rt; escape_at_front(text), Some(want), "at {text}");
+        }
+    }
+
+    fn escape_at_front(text: &str) -> Option<(char, usize)> {
+        let bytes = text.as_bytes();
+        if bytes.is_empty() || bytes[0] != b'\\' {
+            return None;
+        }
+        Some(backslash(bytes))
+    }
+
+    fn unescaped(alloc: Global, text: &str) -> Result<Vec<u8>, NoMemory> {
+        let mut out = Vec::new(alloc);
+        unescape(text.as_bytes(), &mut out)?;
+        Ok(out)
+    }
+
+    #[test]
+    fn reads_all_escapes(rt: HostRuntime) -> Result<(), Fail> {
+        for (text, want) in [
+            ("", ""),
+            ("plain", "plain"),
+            ("a\\n\\x41\\u20ACz", "a\nA\u{20AC}z"),
+            ("\\\\\\\n  b\\", "\\ b\\"),
+        ] {
+            assert_eq!(rt; unescaped(rt.alloc(), text)?.as_slice(), want.as_bytes());
+        }
+        Ok(())
+    }
+}

@@ -8,11 +8,16 @@ mod characters;
 mod counters;
 mod cursors;
 mod escapes;
+pub mod laws;
+mod lists;
 mod memory;
+mod quotes;
 mod texts;
 
 pub use counters::Stats;
 pub use cursors::{Cursor, Sign};
 pub use escapes::{backslash, unescape};
+pub use lists::{ListFault, Span, Spans, split_list};
 pub use memory::NoMemory;
+pub use quotes::quote;
 pub use texts::{Text, as_str};
