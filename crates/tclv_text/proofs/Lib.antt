@@ -10,6 +10,8 @@ pub mod TruthLemmas
 pub mod IndexLemmas
 pub mod GlobLemmas
 pub mod EscapeLemmas
+
+pub mod CursorLemmas
 pub mod ListLemmas
 pub mod Balanced
 pub mod Tails
@@ -21,3 +23,4 @@ pub mod QuotesLifted
 pub mod CursorLemmas
 pub mod GlobCases
 pub mod IndexCases
+
