@@ -10,7 +10,6 @@ pub mod TruthLemmas
 pub mod IndexLemmas
 pub mod GlobLemmas
 pub mod EscapeLemmas
-
 pub mod CursorLemmas
 pub mod ListLemmas
 pub mod Balanced
@@ -20,7 +19,5 @@ pub mod ListCases
 pub mod ListsLifted
 pub mod QuoteLemmas
 pub mod QuotesLifted
-pub mod CursorLemmas
 pub mod GlobCases
 pub mod IndexCases
-

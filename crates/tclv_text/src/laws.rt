@@ -2,7 +2,7 @@
 //! a function that does nothing.
 
 pub mod escapes;
-pub mod lists;
 pub mod globs;
 pub mod indices;
+pub mod lists;
 pub mod numbers;
