@@ -4,6 +4,7 @@ use crate::{Op1, Op2, OpFault, apply1, apply2};
 use std::test::Fail;
 
 /// An operator of two numbers, the numbers, and what it must give.
+#[derive(Drop)]
 struct Row {
     op: Op2,
     left: i64,
@@ -11,7 +12,7 @@ struct Row {
     gives: Result<i64, OpFault>,
 }
 
-const fn row(op: Op2, left: i64, right: i64, gives: Result<i64, OpFault>) -> Row {
+const fn of(op: Op2, left: i64, right: i64, gives: Result<i64, OpFault>) -> Row {
     Row {
         op,
         left,
@@ -23,20 +24,20 @@ const fn row(op: Op2, left: i64, right: i64, gives: Result<i64, OpFault>) -> Row
 #[test]
 fn two_numbers(rt: HostRuntime) -> Result<(), Fail> {
     let rows = [
-        row(Op2::Divide, -7, 2, Ok(-4)),
-        row(Op2::Remainder, -7, 2, Ok(1)),
-        row(Op2::Remainder, 7, -2, Ok(-1)),
-        row(Op2::Power, 2, 9, Ok(512)),
-        row(Op2::Power, 0, -1, Err(OpFault::ZeroPower)),
-        row(Op2::Power, -1, -3, Ok(-1)),
-        row(Op2::Divide, i64::MIN, -1, Err(OpFault::TooLarge)),
-        row(Op2::Divide, 1, 0, Err(OpFault::DivideByZero)),
-        row(Op2::ShiftLeft, 1, 64, Err(OpFault::TooLarge)),
-        row(Op2::ShiftLeft, 0, 64, Ok(0)),
-        row(Op2::ShiftLeft, 1, -1, Err(OpFault::NegativeShift)),
-        row(Op2::ShiftRight, -1, 70, Ok(-1)),
-        row(Op2::Add, i64::MAX, 1, Err(OpFault::TooLarge)),
-        row(Op2::LessEqual, 3, 3, Ok(1)),
+        of(Op2::Divide, -7, 2, Ok(-4)),
+        of(Op2::Remainder, -7, 2, Ok(1)),
+        of(Op2::Remainder, 7, -2, Ok(-1)),
+        of(Op2::Power, 2, 9, Ok(512)),
+        of(Op2::Power, 0, -1, Err(OpFault::ZeroPower)),
+        of(Op2::Power, -1, -3, Ok(-1)),
+        of(Op2::Divide, i64::MIN, -1, Err(OpFault::TooLarge)),
+        of(Op2::Divide, 1, 0, Err(OpFault::DivideByZero)),
+        of(Op2::ShiftLeft, 1, 64, Err(OpFault::TooLarge)),
+        of(Op2::ShiftLeft, 0, 64, Ok(0)),
+        of(Op2::ShiftLeft, 1, -1, Err(OpFault::NegativeShift)),
+        of(Op2::ShiftRight, -1, 70, Ok(-1)),
+        of(Op2::Add, i64::MAX, 1, Err(OpFault::TooLarge)),
+        of(Op2::LessEqual, 3, 3, Ok(1)),
     ];
     for row in &rows {
         assert_eq!(rt; apply2(row.op, row.left, row.right), row.gives);
