@@ -5,3 +5,6 @@ pub mod Rules
 pub mod Moves
 pub mod Levels
 pub mod Whole
+pub mod TreeLaws
+pub mod Variables
+pub mod ReadLaws

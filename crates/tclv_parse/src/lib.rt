@@ -7,9 +7,13 @@
 
 mod complete;
 mod faults;
+mod joining;
+mod literals;
 mod modes;
 mod pieces;
+mod readers;
 mod runs;
+mod stops;
 #[cfg(test)]
 mod tests;
 mod tokens;
@@ -17,6 +21,10 @@ mod tree;
 
 pub use complete::is_complete;
 pub use faults::ParseFault;
+pub use literals::braced;
 pub use pieces::{Piece, PieceKind};
+pub use readers::{Reader, parse};
+pub use runs::Form;
+pub use stops::Stop;
 pub use tokens::Tokens;
 pub use tree::{Command, Part, Script, Word};
