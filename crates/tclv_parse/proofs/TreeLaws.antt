@@ -1,5 +1,5 @@
 -- Values of readings, and the parts that are found.
-use Rattle.std.proofs.Common.{◌≡◌, ℕ, ◌<◌, ◌≤◌, List, [], ◌∷◌, ◌++◌, length, Ok, Err, Some, None, Option, Result, refl, sym, ap, ap₂, ◌∙◌, arith, append_assoc}
+use Rattle.std.proofs.Common.{◌≡◌, ℕ, ◌<◌, ◌≤◌, List, [], ◌∷◌, ◌++◌, length, Ok, Err, Some, None, Option, Result, refl, sym, ap, ap₂, subst, ◌∙◌, arith, append_assoc, IfOk, IsErrAnd}
 use Rattle.std.specs.Str.{chars}
 use Rattle.std.proofs.lemmas.Str.{encodes-chars}
 use Rattle.std.proofs.lemmas.List.{append-nil}
@@ -14,7 +14,7 @@ use Rattle.tclv_parse.specs.declared.joining.Found.{Found}
 use Rattle.tclv_parse.specs.Runs.{Text}
 use Rattle.tclv_parse.specs.Readings.{Piece, Reading, End, valued_end, join, join_end}
 use Rattle.tclv_parse.specs.Grammar.{text_before, text_part}
-use Rattle.tclv_parse.specs.Trees.{ReadsEnd, Goes, pending, parts_before, text_of, literal_of, IsSubstitution, Adds}
+use Rattle.tclv_parse.specs.Trees.{ReadsEnd, ReadsPart, IsMemory, Goes, pending, parts_before, text_of, literal_of, IsSubstitution, Adds}
 
 -- ---- values of what was read
 
@@ -58,6 +58,37 @@ failed B e old NoMemory new t p g = tt
 pub passed : {A B : Type 0} (e : End A) (whole : End B) (s : Stop) (t u : Text) → ((x : ParseFault) → e ≡ Err x → whole ≡ Err x) → ReadsEnd e (Err s) t → ReadsEnd whole (Err s) u
 passed e whole (Fault x) t u h g = h x g
 passed e whole NoMemory t u h g = tt
+
+pub comes-up : {A B : Type 0} (e : End A) (whole : End B) (out : Result B Stop) (x : Stop) (t u : Text) → IsErrAnd out (λ y. y ≡ x) → ((z : ParseFault) → e ≡ Err z → whole ≡ Err z) → ReadsEnd e (Err x) t → ReadsEnd whole out u
+comes-up e whole (Ok b) x t u a h g = absurd a
+comes-up e whole (Err y) x t u a h g = subst (λ z. ReadsEnd whole (Err z) u) (sym a) (passed e whole x t u h g)
+
+part_passed : {A : Type 0} (e : End A) (r : Reading (List Part)) (s : Stop) (t u : Text) → ((x : ParseFault) → e ≡ Err x → r.1 ≡ Err x) → ReadsEnd e (Err s) t → ReadsPart r (Err s) u
+part_passed e r (Fault x) t u h g = h x g
+part_passed e r NoMemory t u h g = tt
+
+-- the same where the rule reads one part
+pub part-comes-up : {A : Type 0} (e : End A) (r : Reading (List Part)) (out : Result Part Stop) (x : Stop) (t u : Text) → IsErrAnd out (λ y. y ≡ x) → ((z : ParseFault) → e ≡ Err z → r.1 ≡ Err z) → ReadsEnd e (Err x) t → ReadsPart r out u
+part-comes-up e r (Ok b) x t u a h g = absurd a
+part-comes-up e r (Err y) x t u a h g = subst (λ z. ReadsPart r (Err z) u) (sym a) (part_passed e r x t u h g)
+
+goes_passed : {A B : Type 0} (C : Type 0) (e : End A) (old new : End B) (s : Stop) (t : Text) → ((x : ParseFault) → e ≡ Err x → old ≡ Err x) → ReadsEnd e (Err s) t → Goes {A = B} {B = C} old (Err s) new
+goes_passed C e old new (Fault x) t h g = h x g
+goes_passed C e old new NoMemory t h g = tt
+
+-- the same where parts are being found
+pub goes-up : {A B C : Type 0} (e : End A) (old new : End B) (out : Result C Stop) (x : Stop) (t : Text) → IsErrAnd out (λ y. y ≡ x) → ((z : ParseFault) → e ≡ Err z → old ≡ Err z) → ReadsEnd e (Err x) t → Goes old out new
+goes-up e old new (Ok b) x t a h g = absurd a
+goes-up {C = C} e old new (Err y) x t a h g = subst (λ z. Goes {B = C} old (Err z) new) (sym a) (goes_passed C e old new x t h g)
+
+pub part-end : (r : Reading (List Part)) (x : Stop) (t : Text) → ReadsPart r (Err x) t → ReadsEnd r.1 (Err x) t
+part-end r (Fault x) t h = h
+part-end r NoMemory t h = tt
+
+-- an answer that only memory can refuse
+pub or-memory : {A : Type 0} (e : End A) (out : Result A Stop) (a : A) (u : Text) → e ≡ Ok (a, u) → IfOk out (λ b. b ≡ a) → IsMemory out → ReadsEnd e out u
+or-memory e (Ok b) a u h ok err = h ∙ ap (λ z. Ok (z, u)) (sym ok)
+or-memory e (Err x) a u h ok err = subst (λ z. ReadsEnd e (Err z) u) (sym err) tt
 
 -- ---- parts that are found
 

@@ -1,5 +1,5 @@
 -- Names of variables, and variables alone.
-use Rattle.std.proofs.Common.{◌≡◌, ℕ, zero, suc, ◌-◌, ◌+◌, ◌<◌, ◌≤◌, Bool, true, false, if◌then◌else◌, List, [], ◌∷◌, ◌++◌, length, take, drop, Option, Some, None, Ok, Err, Result, refl, sym, ap, ap₂, ◌∙◌, arith}
+use Rattle.std.proofs.Common.{◌≡◌, ℕ, zero, suc, ◌-◌, ◌+◌, ◌<◌, ◌≤◌, Bool, true, false, if◌then◌else◌, List, [], ◌∷◌, ◌++◌, length, take, drop, Option, Some, None, Ok, Err, Result, refl, sym, ap, ap₂, ◌∙◌, arith, length-drop}
 use Rattle.tclv_text.specs.Cursors.{sign}
 use Rattle.tclv_text.specs.declared.cursors.Sign.{Sign}
 use Rattle.tclv_text.specs.declared.cursors.Sign.TheVariants as s
@@ -125,6 +125,25 @@ brace-at t e h =
     let q = ap (step run.Sigil) h in
     record { len = o.len ∙ ap suc (next_len run.Sigil (drop 1 t) (Some run.Enclosed) q); end = o.end ∙ next_end run.Sigil (drop 1 t) (Some run.Enclosed) q }
 
+enclosed_le : (u : Text) (m : ℕ) (r : Run) (name v : Text) → enclosed_by u m r ≡ Ok (name, v) → length v ≤ length u
+enclosed_le u m run.Closed name v e =
+    let pair : (take (m - 1) u, drop m u) ≡ (name, v) = cc in
+    let rest : drop m u ≡ v = ap (λ (z : Text × Text). z.1) pair in
+    omega (arith, ap length rest, length-drop m u)
+enclosed_le u m run.Enclosed name v e = cc
+enclosed_le u m r name v e = cc
+
+pub enclosed-le : (u name v : Text) → enclosed_name u ≡ Ok (name, v) → length v ≤ length u
+unfolding enclosed_name
+enclosed-le u name v e = enclosed_le u (run_len run.Enclosed u) (run_end run.Enclosed u) name v e
+
+-- a plain name, and the text behind it
+pub record Plain (t name v : Text) : Type 0 where
+  pub sigil : sign t ≡ s.Dollar
+  pub plain : sign (drop 1 t) ≡ s.OpenBrace → ⊥
+  pub name_is : name ≡ take (run_len run.Sigil (drop 1 t)) (drop 1 t)
+  pub rest : v ≡ drop (run_len run.Sigil (drop 1 t)) (drop 1 t)
+
 -- ---- variables
 
 -- a variable alone, and then what follows it
@@ -160,15 +179,16 @@ module _ (deeper : Deeper) (inner : Bool) where
 
   enclosed_ok : (t u : Text) (n m : ℕ) (r : Run) (name v : Text) → n ≡ suc (suc m) → u ≡ drop 2 t → enclosed_by u m r ≡ Ok (name, v) → (variable_by deeper inner (done []) t n r).1 ≡ Ok (part.Variable name ∷ [], v)
   enclosed_ok t u n m run.Closed name v l q e =
-      let front : take (m - 1) u ≡ name = cc in
-      let rest : drop m u ≡ v = cc in
+      let pair : (take (m - 1) u, drop m u) ≡ (name, v) = cc in
+      let front : take (m - 1) u ≡ name = ap (λ (z : Text × Text). z.0) pair in
+      let rest : drop m u ≡ v = ap (λ (z : Text × Text). z.1) pair in
       let k : n - 3 ≡ m - 1 = omega arith in
       ap₂ (λ x y. Ok (part.Variable x ∷ [], y)) (ap₂ take k (sym q) ∙ front) (ap (λ i. drop i t) l ∙ drop-two-more m t ∙ ap (drop m) (sym q) ∙ rest)
   enclosed_ok t u n m run.Enclosed name v l q e = cc
   enclosed_ok t u n m r name v l q e = cc
 
   enclosed_err : (t u : Text) (n m : ℕ) (r : Run) (x : ParseFault) → is_enclosed r ≡ true → enclosed_by u m r ≡ Err x → (variable_by deeper inner (done []) t n r).1 ≡ Err x
-  enclosed_err t u n m run.Enclosed x a e = e
+  enclosed_err t u n m run.Enclosed x a e = let same : f.VarBrace ≡ x = cc in ap (λ y. Err y) same
   enclosed_err t u n m run.Closed x a e = cc
   enclosed_err t u n m r x a e = cc
 
@@ -192,13 +212,6 @@ module _ (deeper : Deeper) (inner : Bool) where
   plain_by t n run.Enclosed a = cc
   plain_by t n run.Closed a = cc
   plain_by t n _ a = refl
-
-  -- a plain name, and the text behind it
-  pub record Plain (t name v : Text) : Type 0 where
-    pub sigil : sign t ≡ s.Dollar
-    pub plain : sign (drop 1 t) ≡ s.OpenBrace → ⊥
-    pub name_is : name ≡ take (run_len run.Sigil (drop 1 t)) (drop 1 t)
-    pub rest : v ≡ drop (run_len run.Sigil (drop 1 t)) (drop 1 t)
 
   plain-alone : (t name v : Text) → Plain t name v → alone t ≡ (named_by deeper inner name (done []) v (sign v)).1
   plain-alone t name v p =

@@ -55,7 +55,7 @@ impl Reader {
     #[cycle(reader)]
     pub fn script(&self, cursor: &mut Cursor<'_>) -> Result<Script, Stop>
         requires short { length cursor.old < 2 ^ 63 }
-        requires some { 0 < length cursor.old }
+        requires sign { sign cursor.old ≡ Sign.OpenBracket }
         ensures reads { Reads ((spec.deeper self.now).script cursor.old) result cursor.new }
         ensures left { OnOk result (length cursor.new < length cursor.old) }
     {
@@ -79,7 +79,7 @@ impl Reader {
     #[cycle(reader)]
     fn index(&self, cursor: &mut Cursor<'_>) -> Result<Items<Part>, Stop>
         requires short { length cursor.old < 2 ^ 63 }
-        requires some { 0 < length cursor.old }
+        requires sign { sign cursor.old ≡ Sign.OpenParen }
         ensures reads { Reads ((spec.deeper self.now).index cursor.old) result cursor.new }
         ensures left { OnOk result (length cursor.new < length cursor.old) }
     {
