@@ -1,5 +1,5 @@
 pub mod FixLaws
-pub mod Laws
+pub mod PieceLemmas
 pub mod RunLaws
 pub mod Rules
 pub mod Moves
@@ -8,3 +8,4 @@ pub mod Whole
 pub mod TreeLaws
 pub mod Variables
 pub mod ReadLaws
+pub mod Alike

@@ -21,7 +21,7 @@ use Rattle.tclv_parse.specs.Readings.{Piece, Reading, End, valued, valued_end, e
 use Rattle.tclv_parse.specs.Grammar.{Deeper, Course, text_before, text_part, word_of, variable_by, part_by, parts_by, parts, raw, braced_by, braced, closed, end_quote, end_index, word_by, plain_word, word, words_by, words_at, words, ends, halts, place, command_of, command_before, command, script_by, script_of, script, enclosed, enclosed_end, deeper_by, fault_of}
 use Rattle.tclv_parse.specs.Places.{end_of, seen}
 use Rattle.tclv_parse.specs.Readers.{Runs, behind}
-use Rattle.tclv_parse.proofs.Laws.{less, some}
+use Rattle.tclv_parse.proofs.PieceLemmas.{less, some}
 use Rattle.tclv_parse.proofs.RunLaws.{passes, run-taken, literal-step, brace-step}
 use Rattle.tclv_parse.proofs.Rules.{IsDeeper, words-strict, braced-is, parts-is, words-is, script-is}
 use Rattle.tclv_parse.proofs.TreeLaws.{join-ok, join-err}
@@ -283,8 +283,8 @@ ended r a u e = ap end_of e
 
 -- ---- a run of commands
 
-fault_is : (cs : List Command) (x : Option ParseFault) → (out-Script (script_of cs x)).fault ≡ x
-fault_is cs x = search (rules, the_lemmas)
+pub fault-is : (cs : List Command) (x : Option ParseFault) → (out-Script (script_of cs x)).fault ≡ x
+fault-is cs x = search (rules, the_lemmas)
 
 pub behind-none : (found : List Command) (r : Reached) → found ≡ [] → r ≡ behind found r
 behind-none found r e = ap (λ l. behind l r) (sym e)
@@ -294,14 +294,14 @@ runs-end r found out script new e h = subst (λ x. Runs x script new) (sym (e �
 
 runs_none : (cs : List Command) (r : Result Text ParseFault) (script : Script) (new : Text) → Runs (cs, r) script new → (out-Script script).fault ≡ None → enclosed_end cs r ≡ Ok (script, new)
 runs_none cs (Ok t) script new h e = ap₂ (λ x u. Ok (x, u)) (sym h.0) (sym h.1)
-runs_none cs (Err x) script new h e = let g : Some x ≡ None = sym (fault_is cs (Some x)) ∙ sym (ap (λ y. (out-Script y).fault) h) ∙ e in cc
+runs_none cs (Err x) script new h e = let g : Some x ≡ None = sym (fault-is cs (Some x)) ∙ sym (ap (λ y. (out-Script y).fault) h) ∙ e in cc
 
 pub enclosed-none : (r : Course) (script : Script) (new : Text) → Runs r.1 script new → (out-Script script).fault ≡ None → (enclosed r).1 ≡ Ok (script, new)
 enclosed-none r script new h e = runs_none r.1.0 r.1.1 script new h e
 
 runs_some : (cs : List Command) (r : Result Text ParseFault) (script : Script) (new : Text) (x : ParseFault) → Runs (cs, r) script new → (out-Script script).fault ≡ Some x → enclosed_end cs r ≡ Err x
-runs_some cs (Ok t) script new x h e = let g : None ≡ Some x = sym (fault_is cs None) ∙ sym (ap (λ y. (out-Script y).fault) h.0) ∙ e in cc
-runs_some cs (Err y) script new x h e = let g : Some y ≡ Some x = sym (fault_is cs (Some y)) ∙ sym (ap (λ z. (out-Script z).fault) h) ∙ e in let same : y ≡ x = cc in ap (λ z. Err z) same
+runs_some cs (Ok t) script new x h e = let g : None ≡ Some x = sym (fault-is cs None) ∙ sym (ap (λ y. (out-Script y).fault) h.0) ∙ e in cc
+runs_some cs (Err y) script new x h e = let g : Some y ≡ Some x = sym (fault-is cs (Some y)) ∙ sym (ap (λ z. (out-Script z).fault) h) ∙ e in let same : y ≡ x = cc in ap (λ z. Err z) same
 
 pub enclosed-some : (r : Course) (script : Script) (new : Text) (x : ParseFault) → Runs r.1 script new → (out-Script script).fault ≡ Some x → (enclosed r).1 ≡ Err x
 enclosed-some r script new x h e = runs_some r.1.0 r.1.1 script new x h e

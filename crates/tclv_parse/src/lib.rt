@@ -2,12 +2,14 @@
 //!
 //! A script is a text, read from the left by the rules of Tcl(n) as `specs/Grammar.antt` states
 //! them. [`Tokens`] cuts a script into slices of it, [`is_complete`] tells whether a closing mark is
-//! missing; neither takes memory.
+//! missing; neither takes memory. [`parse`] gives the commands of a script as a tree. [`Reader`] and
+//! [`braced`] read the parts of words at a cursor, for readers of other languages that hold them.
 #![tactic(auto)]
 
 mod complete;
 mod faults;
 mod joining;
+pub mod laws;
 mod literals;
 mod modes;
 mod pieces;

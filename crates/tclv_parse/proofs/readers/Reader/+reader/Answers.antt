@@ -18,7 +18,7 @@ use Rattle.tclv_parse.specs.Grammar as grammar
 use Rattle.tclv_parse.specs.Trees.{parts_before, enclosed_name, ReadsEnd}
 use Rattle.tclv_parse.specs.Readers as spec
 use Rattle.tclv_parse.specs.Readers.{parts_ahead, words_ahead, commands_ahead, behind, Runs, end_fault}
-use Rattle.tclv_parse.proofs.Laws.{less, some}
+use Rattle.tclv_parse.proofs.PieceLemmas.{less, some}
 use Rattle.tclv_parse.proofs.Rules.{IsDeeper, deeper-is, word-strict}
 use Rattle.tclv_parse.proofs.RunLaws.{drop-three}
 use Rattle.tclv_parse.proofs.TreeLaws.{moved, unmoved, join-ok, join-err, comes-up, part-comes-up, goes-up, part-end, or-memory}
