@@ -20,6 +20,8 @@ mod stops;
 mod tests;
 mod tokens;
 mod tree;
+#[cfg(test)]
+mod tree_tests;
 
 pub use complete::is_complete;
 pub use faults::ParseFault;
