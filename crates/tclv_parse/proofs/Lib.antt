@@ -1,7 +1,11 @@
 pub mod FixLaws
-pub mod Laws
+pub mod PieceLemmas
 pub mod RunLaws
 pub mod Rules
 pub mod Moves
 pub mod Levels
 pub mod Whole
+pub mod TreeLaws
+pub mod Variables
+pub mod ReadLaws
+pub mod Alike

@@ -20,7 +20,7 @@ use Rattle.tclv_parse.specs.Runs.{Text, ends_word, ends_command, stops, run_len,
 use Rattle.tclv_parse.specs.Readings.{Piece, Reading, before, emit, valued, join, done, fails}
 use Rattle.tclv_parse.specs.Grammar.{Deeper, text_before, text_part, word_of, named_by, variable_by, part_by, parts_by, parts, raw, braced_by, braced, closed, end_quote_by, end_quote, end_index_by, end_index, word_by, plain_word, word, words_by, words_at, words, script_by, script, command, halts, ends, enclosed, deeper_by}
 use Rattle.tclv_parse.specs.Places.{Out, seen, seen_course, chain, halt, stop, script_out, after_word, after_parts, in_parts, named_out, rest_of, opening, is_inside, behind, coming}
-use Rattle.tclv_parse.proofs.Laws.{seen-valued, seen-join, chain-chain, chain-before}
+use Rattle.tclv_parse.proofs.PieceLemmas.{seen-valued, seen-join, chain-chain, chain-before}
 use Rattle.tclv_parse.proofs.Rules.{IsDeeper, braced-is, parts-is, words-is, script-is, seen-command, seen-enclosed}
 
 -- a piece that a reading begins with

@@ -62,7 +62,7 @@ brace-step level e = ap (λ b. passes (if b then None else Some (run.Braced (lev
 
 -- ---- a run, character by character
 
-drop-next : (n : ℕ) (t : Text) → drop 1 (drop n t) ≡ drop (suc n) t
+pub drop-next : (n : ℕ) (t : Text) → drop 1 (drop n t) ≡ drop (suc n) t
 drop-next zero t = refl
 drop-next (suc n) [] = refl
 drop-next (suc n) (c ∷ t) = drop-next n t
@@ -130,12 +130,12 @@ unfolding level_next
 level-next r next x e = let l : level_next (step r x) ≤ level_of r + 1 = level-step r x in omega (arith, l, ap level_next e)
 
 -- what a run makes of a text, by its next step
-next_len : (r : Run) (t : Text) (o : Option Run) → step r (sign t) ≡ o → run_len r t ≡ option_case o 0 (λ next. suc (run_len next (drop 1 t)))
+pub next_len : (r : Run) (t : Text) (o : Option Run) → step r (sign t) ≡ o → run_len r t ≡ option_case o 0 (λ next. suc (run_len next (drop 1 t)))
 unfolding sign
 next_len r [] o e = ap (λ p. option_case p 0 (λ next. suc (run_len next []))) (sym (step-end r) ∙ e)
 next_len r (c ∷ t) o e = ap (λ p. option_case p 0 (λ next. suc (run_len next t))) e
 
-next_end : (r : Run) (t : Text) (o : Option Run) → step r (sign t) ≡ o → run_end r t ≡ option_case o r (λ next. run_end next (drop 1 t))
+pub next_end : (r : Run) (t : Text) (o : Option Run) → step r (sign t) ≡ o → run_end r t ≡ option_case o r (λ next. run_end next (drop 1 t))
 unfolding sign
 next_end r [] o e = ap (λ p. option_case p r (λ next. run_end next [])) (sym (step-end r) ∙ e)
 next_end r (c ∷ t) o e = ap (λ p. option_case p r (λ next. run_end next t)) e

@@ -12,7 +12,7 @@ use Rattle.tclv_parse.specs.Grammar.{Deeper, Course, halts, words, script_by, sc
 use Rattle.tclv_parse.specs.Places.{Out, seen, seen_course, chain_by, chain}
 use Rattle.tclv_parse.specs.Gives.{TilesText}
 use Rattle.tclv_parse.proofs.FixLaws.{fix-holds}
-use Rattle.tclv_parse.proofs.Laws.{less, some, Tiles}
+use Rattle.tclv_parse.proofs.PieceLemmas.{less, some, Tiles}
 use Rattle.tclv_parse.proofs.RunLaws.{passes, run-taken}
 use Rattle.tclv_parse.proofs.Rules.{IsDeeper, deeper-is, words-strict, seen-command, script-tiles}
 

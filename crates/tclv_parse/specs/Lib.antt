@@ -6,3 +6,5 @@ pub mod Places
 pub mod Gives
 pub mod Steps
 pub mod Complete
+pub mod Trees
+pub mod Readers
