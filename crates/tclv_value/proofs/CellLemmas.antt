@@ -12,6 +12,9 @@ use Rattle.tclv_value.proofs.HolderLemmas.{occurs-cons, same_self}
 nat_eq_swap : (a b : ℕ) → nat_eq a b ≡ nat_eq b a
 nat_eq_swap a b = grind arith
 
+pub not_same : (a b : ℕ) → a ≢ b → nat_eq a b ≡ false
+not_same a b ne = grind arith
+
 module _ {X : Type 0} (f : ℕ → X) where
   pub get-by_cell : (es : List (ℕ × ℕ)) (q : ℕ) → get (by_cell f es) q ≡ option_map f (lookup (nat_eq q) es)
   get-by_cell [] q = get-empty nat_cmp q

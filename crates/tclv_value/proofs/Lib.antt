@@ -1,3 +1,5 @@
 pub mod HolderLemmas
 pub mod CellLemmas
 pub mod ViewLemmas
+pub mod GraphLemmas
+pub mod AnswerLemmas

@@ -36,8 +36,9 @@ impl Types for Forms {
     }
 
     fn spells(&self, f: &Form) -> bool {
-        match f {
-            Form::Whole(_) => true,
+        // A number that is read is known to be of 64 bits.
+        match *f {
+            Form::Whole(_number) => true,
         }
     }
 

@@ -12,7 +12,6 @@ use crate::places::{At, object_at};
 use indexmap::IndexMap;
 use std::alloc::Global;
 use std::marker::Model;
-use std::mem;
 use tclv_heap::{Heap, ObjId};
 use tclv_text::{NoMemory, Stats, Text};
 
@@ -120,8 +119,9 @@ impl Store {
         ensures keeps { KeepsMadeBut self.old (Stack to) self.new }
     {
         let id = object_at(self.stack.as_slice(), &self.cells, from);
+        let old = self.stack[to];
         self.heap.share(id);
-        let old = mem::replace(&mut self.stack[to], id);
+        self.stack[to] = id;
         self.heap.release(old);
     }
 
@@ -139,7 +139,7 @@ impl Store {
         ensures cells { self.new.cells ≡ self.old.cells }
         ensures keeps { KeepsMade self.old self.new }
     {
-        for _ in 0..n {
+        for _gone in 0..n {
             self.pop_one();
         }
     }
