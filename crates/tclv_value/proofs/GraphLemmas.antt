@@ -1,17 +1,19 @@
 -- What the calls of the heap keep of the objects' texts, and the places after them.
-use Rattle.std.proofs.Common.{◌≡◌, ◌≢◌, ℕ, ◌<◌, ◌+◌, inl, inr, List, [], ◌∷◌, ◌++◌, Bool, true, false, Option, Some, None, IsSome, is_some, refl, sym, ap, ◌∙◌, arith, subst, min, true≢false}
+use Rattle.std.proofs.Common.{◌≡◌, ◌≢◌, ℕ, ◌<◌, ◌+◌, inl, inr, List, [], ◌∷◌, ◌++◌, Bool, true, false, Option, Some, None, IsSome, is_some, refl, sym, ap, ◌∙◌, arith, subst, min, true≢false, length, get_or, set, cond, eqb, nat_eq}
 use Rattle.std.specs.Prelude.{IsTrue}
-use Rattle.std.specs.Map.{values_of}
+use Rattle.std.specs.Map.{values_of, lookup}
+use Rattle.indexmap.specs.IndexMap.{insert_entry, swap_remove_entry}
+use Rattle.std.proofs.lemmas.List.Sums.{sum_by-set}
 use Rattle.std.proofs.lemmas.Bool.{cases_eq}
 use Rattle.tclv_heap.specs.declared.ids.Object.{Object}
-use Rattle.tclv_heap.specs.Graph.{Graph, at, occurs, stuck, text_in, form_in, Updates, Adds, HasOutside}
+use Rattle.tclv_heap.specs.Graph.{Graph, at, occurs, same, stuck, text_in, form_in, Updates, Adds, HasOutside}
 use Rattle.tclv_heap.specs.Dying.{Releases}
 use Rattle.tclv_heap.specs.Holders.{Holders, Passes}
 use Rattle.tclv_heap.specs.Stands.{Keeps, SaysSame, Retexted, stands}
 use Rattle.tclv_value.specs.Forms.{form_table}
-use Rattle.tclv_value.specs.Places.{text_of, made_of, places, IsPlaced, KeepsTexts}
+use Rattle.tclv_value.specs.Places.{text_of, made_of, places, IsPlaced, TextsStay}
 use Rattle.tclv_value.specs.declared.forms.Form.{Form}
-use Rattle.tclv_value.proofs.HolderLemmas.{occurs-append, occurs-cons, Holders_same, Holders_outside}
+use Rattle.tclv_value.proofs.HolderLemmas.{occurs-append, occurs-cons, occurs_insert, occurs_swap_remove, listed, Holders_same, Holders_outside}
 use Rattle.tclv_value.proofs.ViewLemmas.{G, Still, Shift}
 
 pub by_slot : (P : Type 0) (s : Option (Object Form)) → (s ≡ None → P) → ((n : Object Form) → s ≡ Some n → P) → P
@@ -95,8 +97,8 @@ still_then_released g m h ids first released keeps =
     }
 
 -- texts are made
-pub retexted_made : (Among : ℕ → Type 0) (old new : G) → Retexted form_table Among old new → (o : ℕ) → IsTrue (made_of old o) → IsTrue (made_of new o)
-retexted_made Among old new r o made =
+pub retexted_made : (Among : ℕ → Type 0) (old new : G) → Retexted form_table Among old new → TextsStay old new
+retexted_made Among old new r o there made =
     by_slot _ (at old o)
     (λ e. absurd (let no : made_of old o ≡ false = ap (λ s. is_some (text_in s)) e in true≢false (sym made ∙ no)))
     (λ n e. elim (r.kept o n e) [
@@ -107,3 +109,62 @@ retexted_made Among old new r o made =
 pub retexted_there : (Among : ℕ → Type 0) (old new : G) → Retexted form_table Among old new → (o : ℕ) → IsSome (at old o) → IsSome (at new o)
 retexted_there Among old new r o there =
     by_slot _ (at old o) (λ e. absurd (no_object old o e there)) (λ n e. elim (r.kept o n e) [ inl same_n ↦ ap is_some same_n | inr told ↦ ap is_some told.2 ])
+
+-- a place of the stack gets an object, and its old object is released
+pub over_splits : (ids : List ℕ) (es : List (ℕ × ℕ)) (i o old x : ℕ) → i < length ids → get_or ids i 0 ≡ old → occurs x (places (ids ++ o ∷ []) es) ≡ occurs x (old ∷ places (set ids i o) es)
+over_splits ids es i o old x within here =
+    omega
+    (
+      arith,
+      occurs-append x (ids ++ o ∷ []) (values_of es),
+      occurs-append x ids (o ∷ []),
+      occurs-cons x o [],
+      occurs-cons x old (places (set ids i o) es),
+      occurs-append x (set ids i o) (values_of es),
+      sum_by-set (λ y. cond (eqb x y) 1 0) ids i o 0 within,
+      ap (same x) here,
+    )
+
+-- the top of the stack goes into a cell
+module _ (g : G) (ids : List ℕ) (es es2 : List (ℕ × ℕ)) (o c : ℕ) (entries : es2 ≡ insert_entry nat_eq es c o) where
+  pub put_splits : (old : Option ℕ) → lookup (nat_eq c) es ≡ old → (x : ℕ) → occurs x (places (ids ++ o ∷ []) es) ≡ occurs x (listed old ++ places ids es2)
+  put_splits old is x =
+      omega
+      (
+        arith,
+        occurs-append x (ids ++ o ∷ []) (values_of es),
+        occurs-append x ids (o ∷ []),
+        occurs-cons x o [],
+        occurs-append x (listed old) (places ids es2),
+        occurs-append x ids (values_of es2),
+        occurs_insert x c o es,
+        ap (λ y. occurs x (listed y)) is,
+        ap (λ xs. occurs x (values_of xs)) entries,
+      )
+
+  pub put_was : (p : ℕ) → 0 < occurs p (places ids es2) → 0 < occurs p (places (ids ++ o ∷ []) es)
+  put_was p some = omega (arith, some, put_splits (lookup (nat_eq c) es) refl p, occurs-append p (listed (lookup (nat_eq c) es)) (places ids es2))
+
+  -- a cell that was not there
+  pub placed_put : IsPlaced g (ids ++ o ∷ []) es → lookup (nat_eq c) es ≡ None → IsPlaced g ids es2
+  placed_put placed none = record {
+    sound = placed.sound;
+    closed = placed.closed;
+    holders = Holders_same form_table.parts g (places (ids ++ o ∷ []) es) (places ids es2) (put_splits None none) placed.holders;
+  }
+
+-- a cell goes
+pub drop_splits : (ids : List ℕ) (es es2 : List (ℕ × ℕ)) (c o : ℕ) → es2 ≡ swap_remove_entry (nat_eq c) es → lookup (nat_eq c) es ≡ Some o → (x : ℕ) → occurs x (places ids es) ≡ occurs x (o ∷ places ids es2)
+drop_splits ids es es2 c o entries is x =
+    omega
+    (
+      arith,
+      occurs-append x ids (values_of es),
+      occurs-cons x o (places ids es2),
+      occurs-append x ids (values_of es2),
+      occurs_swap_remove x (nat_eq c) es o is,
+      ap (λ xs. occurs x (values_of xs)) entries,
+    )
+
+pub drop_was : (ids : List ℕ) (es es2 : List (ℕ × ℕ)) (o : ℕ) → ((x : ℕ) → occurs x (places ids es) ≡ occurs x (o ∷ places ids es2)) → (p : ℕ) → 0 < occurs p (places ids es2) → 0 < occurs p (places ids es)
+drop_was ids es es2 o splits p some = omega (arith, some, splits p, occurs-cons p o (places ids es2))

@@ -3,3 +3,4 @@ pub mod CellLemmas
 pub mod ViewLemmas
 pub mod GraphLemmas
 pub mod AnswerLemmas
+pub mod NumberLemmas

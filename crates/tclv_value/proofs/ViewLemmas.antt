@@ -1,19 +1,19 @@
 -- From what the heap ensures to what the store's view shows.
-use Rattle.std.proofs.Common.{◌≡◌, ◌≢◌, ℕ, suc, ◌+◌, ◌-◌, ◌<◌, ◌≤◌, inl, inr, List, [], ◌∷◌, ◌++◌, map, length, get_or, set, take, Bool, true, false, cond, Option, Some, None, IsSome, is_some, refl, sym, ap, ◌∙◌, arith, subst, nat_eq, eqb}
+use Rattle.std.proofs.Common.{◌≡◌, ◌≢◌, ℕ, suc, ◌+◌, ◌-◌, ◌<◌, ◌≤◌, inl, inr, List, [], ◌∷◌, ◌++◌, map, length, get_or, set, take, take-take, Bool, true, false, cond, Option, Some, None, IsSome, is_some, refl, sym, ap, ◌∙◌, arith, subst, nat_eq, eqb}
 use Rattle.std.specs.Prelude.{IsTrue}
 use Rattle.std.specs.Option.{option_map, unwrap_or}
 use Rattle.std.specs.Map.{lookup, values_of}
 use Rattle.std.specs.FinMap.{get, insert, remove}
 use Rattle.std.proofs.Math.ListN.{get_or-append}
 use Rattle.std.proofs.lemmas.Bool.{cases_eq, cases_lt}
-use Rattle.std.proofs.lemmas.List.{map_push, length_push, take_at, get_or-map, length-map, get_or_push, map-set, get_or-set_same, get_or-set_other, length-set}
+use Rattle.std.proofs.lemmas.List.{map_push, length_push, take_at, get_or-map, length-map, get_or_push, map-set, get_or-set_same, get_or-set_other, length-set, length-take-le}
 use Rattle.std.proofs.lemmas.List.Sums.{sum_by-set}
 use Rattle.tclv_heap.specs.declared.ids.Object.{Object}
 use Rattle.tclv_heap.specs.Graph.{Graph, at, occurs, same, text_in}
 use Rattle.tclv_heap.specs.Stands.{SaysSame}
 use Rattle.tclv_value.specs.Forms.{form_table}
 use Rattle.tclv_value.specs.View.{View, HasPlace, text_at, made_at, IsMade, KeepsMade, KeepsMadeBut, StaysMade}
-use Rattle.tclv_value.specs.Places.{text_of, made_of, by_cell, view_of, places, IsPlaced, HasId, id_at, KeepsTexts}
+use Rattle.tclv_value.specs.Places.{text_of, made_of, by_cell, view_of, places, IsPlaced, HasId, id_at, TextsStay}
 use Rattle.tclv_value.specs.declared.forms.Form.{Form}
 use Rattle.tclv_value.specs.declared.places.At.{At}
 use Rattle.tclv_value.specs.declared.places.At.TheVariants.{Stack, Cell}
@@ -104,7 +104,7 @@ module _ (g : G) (ids : List ℕ) (es : List (ℕ × ℕ)) (v : View) (view : vi
   pub named_made : (o : ℕ) → o ≡ id_at ids es place → made_of g o ≡ made_at v place
   named_made o id = ap (made_of g) id ∙ sym (made_is g ids es place named_id) ∙ ap (λ w. made_at w place) view
 
-same_view : (g : G) (ids : List ℕ) (es : List (ℕ × ℕ)) (v : View) → view_of g ids es ≡ v → length v.stack ≡ length ids
+pub same_view : (g : G) (ids : List ℕ) (es : List (ℕ × ℕ)) (v : View) → view_of g ids es ≡ v → length v.stack ≡ length ids
 same_view g ids es v view = ap (λ (x : View). length x.stack) (sym view) ∙ length-map ids (text_of g)
 
 -- an object at the end of the stack
@@ -243,12 +243,12 @@ module _ (g h : G) (ids : List ℕ) (es : List (ℕ × ℕ)) (before : IsPlaced 
   pub kept_cells : by_cell (text_of h) es ≡ v.cells
   kept_cells = by_cell_agree (text_of h) (text_of g) es (λ p i. says_at p (omega (arith, i, occurs-append p ids (values_of es)))) ∙ ap (λ (x : View). x.cells) view
 
-  pub stays_made : ((o : ℕ) → IsTrue (made_of g o) → IsTrue (made_of h o)) → StaysMade v (view_of h ids es)
+  pub stays_made : TextsStay g h → StaysMade v (view_of h ids es)
   stays_made made =
       subst (λ w. StaysMade w (view_of h ids es)) view
       (λ place there is.
       let i = has_id g ids es place there in
-      made_is h ids es place i ∙ made (id_at ids es place) (sym (made_is g ids es place i) ∙ is))
+      made_is h ids es place i ∙ made (id_at ids es place) (after.holders.there _ (id_listed ids es place i)) (sym (made_is g ids es place i) ∙ is))
 
   pub made_there : (place : At) → HasPlace v place → (o : ℕ) → o ≡ id_at ids es place → IsTrue (made_of h o) → IsMade (view_of h ids es) place
   made_there place there o id is = made_is h ids es place (named_id g ids es v view place there) ∙ ap (made_of h) (sym id) ∙ is
@@ -268,3 +268,14 @@ cell_is_there g ids es v c view = mapped (lookup (nat_eq c) es) ∙ ap is_some (
 -- calls after one another
 pub KeepsMade_trans : (a b d : View) → ((place : At) → HasPlace d place → HasPlace b place) → KeepsMade a b → KeepsMade b d → KeepsMade a d
 KeepsMade_trans a b d there first second place old new = second place (there place new) new ∙ first place old (there place new)
+
+-- one more text goes
+pub pop_more : (s a b : List (List ℕ)) (k : ℕ) → a ≡ take (length s - k) s → k < length s → b ≡ take (length a - 1) a → b ≡ take (length s - (k + 1)) s
+pop_more s a b k first within second =
+    let len : length a ≡ length s - k = ap length first ∙ length-take-le (length s - k) s (omega arith) in
+    let fewer : length a - 1 ≡ length s - (k + 1) = omega (arith, len) in
+    second ∙ ap (λ m. take m a) fewer ∙ ap (take (length s - (k + 1))) first ∙ take-take (length s - (k + 1)) (length s - k) s (omega arith)
+
+pub pop_there : (b d : View) → d.stack ≡ take (length b.stack - 1) b.stack → d.cells ≡ b.cells → (place : At) → HasPlace d place → HasPlace b place
+pop_there b d stack cells (Stack i) h = omega (arith, h, ap length stack, length-take-le (length b.stack - 1) b.stack (omega arith))
+pop_there b d stack cells (Cell c) h = subst (λ m. IsSome (get m c)) cells h

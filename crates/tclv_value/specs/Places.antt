@@ -53,7 +53,6 @@ abbrev pub id_at : List ℕ → List (ℕ × ℕ) → At → ℕ
 id_at ids entries (Stack i) = slice_index_or ids i 0
 id_at ids entries (Cell cell) = unwrap_or (lookup (nat_eq cell) entries) 0
 
--- each object that was there is there, and its text is made where it was
-pub record KeepsTexts (old new : Graph Form) : Type 0 where
-  pub there : (o : ℕ) → IsSome (at old o) → IsSome (at new o)
-  pub made : (o : ℕ) → IsTrue (made_of old o) → IsTrue (made_of new o)
+-- of each object that is there still, a made text stays made
+abbrev pub TextsStay : Graph Form → Graph Form → Type 0
+TextsStay old new = (o : ℕ) → IsSome (at new o) → IsTrue (made_of old o) → IsTrue (made_of new o)

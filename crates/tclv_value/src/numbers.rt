@@ -6,7 +6,7 @@ ghost use Rattle.tclv_heap.specs.Holders.{Passes};
 ghost use Rattle.tclv_heap.specs.Stands.{Keeps, IsClosed, IsSound};
 ghost use Rattle.tclv_value.specs.Answers.{RefusesWhole};
 ghost use Rattle.tclv_value.specs.Forms.{form_table};
-ghost use Rattle.tclv_value.specs.Places.{text_of, KeepsTexts};
+ghost use Rattle.tclv_value.specs.Places.{text_of, TextsStay};
 
 use crate::faults::ValueFault;
 use crate::forms::{Form, Forms};
@@ -23,7 +23,7 @@ pub(crate) fn whole_of(heap: &mut Heap<Forms>, id: ObjId) -> Result<i64, ValueFa
         RefusesWhole fault (whole (text_of heap.old.graph id))) }
     ensures holders { Passes form_table.parts heap.old.graph [] heap.new.graph [] }
     ensures keeps { Keeps form_table heap.old.graph heap.new.graph }
-    ensures texts { KeepsTexts heap.old.graph heap.new.graph }
+    ensures texts { TextsStay heap.old.graph heap.new.graph }
 {
     if let Some(Form::Whole(n)) = heap.form(id) {
         return Ok(*n);
@@ -52,7 +52,7 @@ fn keep_whole(heap: &mut Heap<Forms>, id: ObjId, n: i64)
     requires sound { IsSound form_table heap.old.graph }
     ensures holders { Passes form_table.parts heap.old.graph [] heap.new.graph [] }
     ensures keeps { Keeps form_table heap.old.graph heap.new.graph }
-    ensures texts { KeepsTexts heap.old.graph heap.new.graph }
+    ensures texts { TextsStay heap.old.graph heap.new.graph }
 {
     heap.set_form(id, Form::Whole(n), 1);
 }
