@@ -20,7 +20,7 @@ pub by_slot : (P : Type 0) (s : Option (Object Form)) → (s ≡ None → P) →
 by_slot P None none some = none refl
 by_slot P (Some n) none some = some n refl
 
-no_object : (g : G) (o : ℕ) → at g o ≡ None → IsSome (at g o) → ⊥
+pub no_object : (g : G) (o : ℕ) → at g o ≡ None → IsSome (at g o) → ⊥
 no_object g o none there = cc
 
 -- a new object

@@ -1,6 +1,6 @@
 -- Objects that are kept as numbers.
-use Rattle.std.proofs.Common.{◌≡◌, ◌≢◌, ℕ, ◌<◌, ℤ, inl, inr, List, set, length, Option, Some, None, Ok, IsSome, is_some, refl, sym, ap, ◌∙◌, arith}
-use Rattle.std.specs.Prelude.{IsTrue}
+use Rattle.std.proofs.Common.{◌≡◌, ◌≢◌, ℕ, ◌<◌, ℤ, inl, inr, List, set, length, Option, Some, None, Ok, IsSome, is_some, refl, sym, ap, subst, ◌∙◌, arith}
+use Rattle.std.specs.Prelude.{IsTrue, IfSome}
 use Rattle.std.proofs.lemmas.Bool.{cases_eq}
 use Rattle.std.proofs.lemmas.List.{get_or-set_same, get_or-set_other, get_or_past}
 use Rattle.tclv_text.specs.Numbers.{whole}
@@ -32,6 +32,10 @@ form_number g o n h = by_text (text_in (at g o)) refl
     by_text : (text : Option (List ℕ)) → text_in (at g o) ≡ text → whole (text_of g o) ≡ Ok n
     by_text None is = let spelled = h.spells is in ap whole spelled.1 ∙ whole_back n spelled.0
     by_text (Some s) is = ap whole (text_said g o s is) ∙ h.fits s is
+
+pub kept_number : (g : G) (o : ℕ) (f : Form) (r : Option ℤ) → HasForm form_table g o f → IfSome r (λ n. f ≡ Whole n) → IfSome r (λ n. whole (text_of g o) ≡ Ok n)
+kept_number g o f None has is = is
+kept_number g o f (Some n) has is = form_number g o n (subst (HasForm form_table g o) is has)
 
 -- an object gets a form, and the parts of its old one are released
 pub reformed_texts : (g h : G) (id : ℕ) (form : Form) (depth : ℕ) → IsSome (text_in (at g id)) → ((n : Object Form) → at g id ≡ Some n → Releases form_table.parts (set g id (Some (record n { form = Some form; depth = depth }))) (form_parts form_table.parts n.form) h) → TextsStay g h

@@ -1,5 +1,5 @@
 // The table of types: the forms that a value may be kept in beside its text, or in its place.
-ghost use Rattle.std.specs.Prelude.{◌≡◌};
+ghost use Rattle.std.specs.Prelude.{◌≡◌, IfSome};
 
 use std::alloc::Global;
 use tclv_heap::{ObjId, Texts, Types};
@@ -10,6 +10,19 @@ use tclv_text::{NoMemory, whole_text};
 pub(crate) enum Form {
     /// As a whole number.
     Whole(i64),
+}
+
+impl Form {
+    ghost use Rattle.tclv_value.specs.declared.forms.Form.TheVariants.{Whole};
+
+    /// The number, where the value is kept as one.
+    pub(crate) fn as_whole(&self) -> Option<i64>
+        ensures { IfSome result (λ n. self.now ≡ Whole n) }
+    {
+        match *self {
+            Form::Whole(n) => Some(n),
+        }
+    }
 }
 
 /// The forms of a store's values.

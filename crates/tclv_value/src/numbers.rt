@@ -1,5 +1,5 @@
 // Values as whole numbers.
-ghost use Rattle.std.specs.Prelude.{◌≡◌, [], Ok, Some, IsSome, IfOk, IfErr};
+ghost use Rattle.std.specs.Prelude.{◌≡◌, [], Ok, Some, IsSome, IfSome, IfOk, IfErr};
 ghost use Rattle.tclv_text.specs.Numbers.{whole};
 ghost use Rattle.tclv_heap.specs.Graph.{at, text_in};
 ghost use Rattle.tclv_heap.specs.Holders.{Passes};
@@ -25,13 +25,24 @@ pub(crate) fn whole_of(heap: &mut Heap<Forms>, id: ObjId) -> Result<i64, ValueFa
     ensures keeps { Keeps form_table heap.old.graph heap.new.graph }
     ensures texts { TextsStay heap.old.graph heap.new.graph }
 {
-    if let Some(Form::Whole(n)) = heap.form(id) {
-        return Ok(*n);
+    if let Some(n) = kept_whole(heap, id) {
+        return Ok(n);
     }
     heap.make_string(id)?;
     let n = read_whole(heap, id)?;
     keep_whole(heap, id, n);
     Ok(n)
+}
+
+// The number that an object is kept as, if it is.
+fn kept_whole(heap: &Heap<Forms>, id: ObjId) -> Option<i64>
+    requires { IsSome (at heap.now.graph id) }
+    ensures { IfSome result (λ n. whole (text_of heap.now.graph id) ≡ Ok n) }
+{
+    match heap.form(id) {
+        Some(form) => form.as_whole(),
+        None => None,
+    }
 }
 
 // Reads the text of an object as a number. It is made.

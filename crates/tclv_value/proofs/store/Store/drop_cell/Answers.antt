@@ -15,7 +15,7 @@ splits c = drop_splits c.self.inside.stack.items c.self.inside.cells.entries c.s
 
 pub release-requires : goal.release-requires
 release-requires c =
-    released_outside c.self.inside.heap.graph c.self.inside.heap.graph _ _ _ _ _ c.self.invariant (splits (goal.at.release-requires c).In-Some)
+    released_outside c.self.inside.heap.graph c.self.inside.heap.graph c.self.inside.stack.items c.self.inside.stack.items c.self.inside.cells.entries c.swap_remove.new.self.entries c.in-Some.id c.self.invariant (splits (goal.at.release-requires c).In-Some)
 
 shift : (c : After-release) → Shift c.self.inside.heap.graph c.self.inside.stack.items c.self.inside.cells.entries c.release.new.self.graph c.self.inside.stack.items c.swap_remove.new.self.entries
 shift c = record {
