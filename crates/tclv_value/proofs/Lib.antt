@@ -4,3 +4,4 @@ pub mod ViewLemmas
 pub mod GraphLemmas
 pub mod AnswerLemmas
 pub mod NumberLemmas
+pub mod CallerLemmas

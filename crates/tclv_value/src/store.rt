@@ -118,10 +118,10 @@ impl Store {
         ensures cells { self.new.cells ≡ self.old.cells }
         ensures keeps { KeepsMadeBut self.old (Stack to) self.new }
     {
-        let id = object_at(self.stack.as_slice(), &self.cells, from);
+        let copied = object_at(self.stack.as_slice(), &self.cells, from);
         let old = self.stack[to];
-        self.heap.share(id);
-        self.stack[to] = id;
+        self.heap.share(copied);
+        self.stack[to] = copied;
         self.heap.release(old);
     }
 
