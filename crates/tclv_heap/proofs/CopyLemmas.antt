@@ -1,18 +1,17 @@
 -- More holders, and copies.
-use Rattle.std.proofs.Common.{◌≡◌, ◌≢◌, ℕ, ◌+◌, ◌<◌, ◌≤◌, inl, inr, List, [], ◌∷◌, ◌++◌, map, set, take, min, Option, Some, None, IsSome, is_some, cond, refl, sym, ap, ◌∙◌, arith, subst}
-use Rattle.std.specs.Prelude.{eqb, count_by}
-use Rattle.std.proofs.lemmas.Bool.{cases_eq, cases_lt}
+use Rattle.std.proofs.Common.{◌≡◌, ℕ, ◌+◌, ◌<◌, ◌≤◌, inl, inr, List, [], ◌∷◌, ◌++◌, map, min, Option, Some, None, IsSome, is_some, cond, refl, sym, ap, ◌∙◌, arith, subst}
+use Rattle.std.specs.Prelude.{eqb}
 use Rattle.std.proofs.lemmas.List.Sums.{sum_by_push}
 use Rattle.tclv_heap.specs.declared.ids.Object.{Object}
 use Rattle.tclv_heap.specs.Table.{Table, Alike}
-use Rattle.tclv_heap.specs.Graph.{Graph, stuck, at, text_in, form_in, depth_in, occurs, same, Updates, held, holds, form_parts, IsCounted, Takes, Leads, Shared, SharedBy}
-use Rattle.tclv_heap.specs.Stands.{depth_of, depth_for, said_by, said, stands, IsSpoken, SaysSame, IsSound, FitsDepth, Copies, Duplicates, Tells, HasForm, deepest}
+use Rattle.tclv_heap.specs.Graph.{Graph, stuck, at, text_in, form_in, depth_in, occurs, same, Updates, held, holds, form_parts, IsCounted, Takes, Shared}
+use Rattle.tclv_heap.specs.Stands.{stands, IsSound, FitsDepth, Copies, Duplicates, Tells, HasForm}
 use Rattle.tclv_heap.specs.Stands.Copies.{plain, spelt, unspelt}
 use Rattle.tclv_heap.proofs.SumLemmas.{sum_alike}
-use Rattle.tclv_heap.proofs.GraphLemmas.{at_cases, some_is_there, Grounded_fewer, Sound_reform, Updates_set, held_updates}
+use Rattle.tclv_heap.proofs.GraphLemmas.{at_cases, some_is_there, Grounded_fewer, held_updates}
 use Rattle.tclv_heap.proofs.DyingLemmas.{same_yes, same_no}
 use Rattle.tclv_heap.proofs.StandsLemmas.{Kept, SaysSame_kept, Spoken_kept, stands_form, said_by_agree, part_there}
-use Rattle.tclv_heap.proofs.HeapLemmas.{Valid_insert, Inserted, stands_text_in, some_value}
+use Rattle.tclv_heap.proofs.HeapLemmas.{Valid_insert}
 
 pub occurs_push : (x o : ℕ) (ids : List ℕ) → occurs x (ids ++ o ∷ []) ≡ occurs x ids + same x o
 occurs_push x o ids = sum_by_push (λ y. cond (eqb x y) 1 0) ids o

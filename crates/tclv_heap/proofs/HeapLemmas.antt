@@ -1,12 +1,12 @@
 -- The steps of `Heap`, on the whole graph.
-use Rattle.std.proofs.Common.{◌≡◌, ◌≢◌, ℕ, ◌<◌, ◌≤◌, inl, inr, List, [], ◌++◌, map, set, Option, Some, None, IsSome, is_some, refl, sym, ap, ◌∙◌, arith, subst}
+use Rattle.std.proofs.Common.{◌≡◌, ◌≢◌, ℕ, ◌<◌, ◌≤◌, inl, inr, List, [], map, set, Option, Some, None, IsSome, is_some, refl, sym, ap, ◌∙◌, arith, subst}
 use Rattle.std.specs.Prelude.{unwrap_or}
 use Rattle.std.proofs.lemmas.Bool.{cases_lt}
 use Rattle.tclv_heap.specs.declared.ids.Object.{Object}
 use Rattle.tclv_heap.specs.Table.{Table}
-use Rattle.tclv_heap.specs.Graph.{Graph, stuck, at, text_in, count_in, occurs, Updates, held, holds, form_parts, IsCounted, Takes, Leads}
+use Rattle.tclv_heap.specs.Graph.{Graph, stuck, at, text_in, occurs, Updates, held, holds, form_parts, IsCounted, Takes, Leads}
 use Rattle.tclv_heap.specs.Dying.{Dying}
-use Rattle.tclv_heap.specs.Stands.{deepest, depth_for, depth_of, said, stands, IsSpoken, SaysSame, IsSound, FitsDepth}
+use Rattle.tclv_heap.specs.Stands.{depth_for, depth_of, said, stands, IsSpoken, SaysSame, IsSound, FitsDepth}
 use Rattle.tclv_heap.specs.Graph.Leads.{here}
 use Rattle.tclv_heap.proofs.GraphLemmas.{at_cases, some_is_there, holds_le_held, held_updates, Sound_empty, Sound_reform, Sound_insert, Sound_recount, Updates_set}
 use Rattle.tclv_heap.proofs.StandsLemmas.{Speaks, Spoken_write, Spoken_kept, SaysSame_kept, Kept, Agrees, Agrees_kept, Agrees_text, stands_same, stands_is, stands_text, stands_form, part_there, said_agree, map_agree}

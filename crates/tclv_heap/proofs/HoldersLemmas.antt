@@ -1,11 +1,11 @@
 -- How the outside holders change with the graph.
-use Rattle.std.proofs.Common.{◌≡◌, ◌≢◌, ℕ, ◌+◌, ◌<◌, ◌≤◌, inl, inr, List, [], ◌∷◌, ◌++◌, cond, eqb, min, Option, Some, None, IsSome, is_some, refl, sym, ap, ◌∙◌, arith, subst}
+use Rattle.std.proofs.Common.{◌≡◌, ◌≢◌, ℕ, ◌+◌, ◌<◌, ◌≤◌, inl, inr, List, [], ◌∷◌, ◌++◌, cond, eqb, min, Some, None, IsSome, is_some, refl, sym, ap, ◌∙◌, arith, subst}
 use Rattle.std.proofs.lemmas.Bool.{cases_eq, cases_lt}
 use Rattle.std.proofs.lemmas.List.Sums.{sum_by-append}
 use Rattle.tclv_heap.specs.declared.ids.Object.{Object}
 use Rattle.tclv_heap.specs.Table.{Table}
 use Rattle.tclv_text.specs.declared.counters.Stats.{Stats}
-use Rattle.tclv_heap.specs.Graph.{Graph, View, stuck, at, occurs, same, Updates, held, holds, form_parts, Takes, HasOutside, SharedBy}
+use Rattle.tclv_heap.specs.Graph.{Graph, View, stuck, at, occurs, Updates, held, holds, form_parts, Takes, HasOutside, SharedBy}
 use Rattle.tclv_heap.specs.Dying.{Releases}
 use Rattle.tclv_heap.specs.Stands.{IsClosed, Retexted, stands}
 use Rattle.tclv_heap.specs.Holders.{Holders}

@@ -2,8 +2,7 @@
 use Rattle.std.proofs.Common.{◌≡◌, ◌≢◌, ℕ, zero, suc, ◌<◌, ◌≤◌, inl, inr, List, [], ◌∷◌, map, Option, Some, None, IsSome, is_some, refl, sym, ap, ◌∙◌, arith, subst}
 use Rattle.tclv_heap.specs.declared.ids.Object.{Object}
 use Rattle.tclv_heap.specs.Table.{Table}
-use Rattle.tclv_heap.specs.Graph.{Graph, at, text_in, occurs, Updates, held, holds, form_parts, Leads}
-use Rattle.tclv_heap.specs.Graph.Leads.{here, down}
+use Rattle.tclv_heap.specs.Graph.{Graph, at, occurs, Updates, held, holds, form_parts}
 use Rattle.tclv_heap.specs.Stands.{deepest, depth_for, depth_of, said_by, said, stands_in, stands, IsSpoken}
 use Rattle.tclv_heap.proofs.DyingLemmas.{occurs-cons, same_yes}
 use Rattle.tclv_heap.proofs.GraphLemmas.{at_cases, some_is_there, holds_le_held}

@@ -4,7 +4,8 @@ use Rattle.tclv_heap.specs.declared.ids.Object.{Object}
 use Rattle.tclv_heap.specs.Graph.{Graph, at, occurs, stuck, held, IsGrounded, Updates}
 
 module _ {F : Type 0} (parts : F → List ℕ) where
-  -- an object that is still there: nothing but its count changed, and its outside holders by those of `ids`, but for those that are still to go
+  -- an object that is still there: nothing but its count changed, and its outside holders by those of
+  -- `ids`, but for those that are still to go
   pub record Remains (old new : Graph F) (ids pending : List ℕ) (o : ℕ) (was is : Object F) : Type 0 where
     pub text : is.text ≡ was.text
     pub form : is.form ≡ was.form
@@ -12,13 +13,17 @@ module _ {F : Type 0} (parts : F → List ℕ) where
     pub lower : is.count ≤ was.count
     pub stays : was.count ≡ stuck → is.count ≡ stuck
     pub loose : was.count ≢ stuck → is.count ≢ stuck
-    pub counted : was.count ≢ stuck → is.count + (held parts old o + occurs o ids) ≡ was.count + (held parts new o + occurs o pending)
+    pub counted : was.count ≢ stuck
+        → is.count + (held parts old o + occurs o ids)
+        ≡ was.count + (held parts new o + occurs o pending)
 
   -- outside holders of `ids` went, and all that they alone held, but for holders that are still to go
   pub record Dying (old : Graph F) (ids pending : List ℕ) (new : Graph F) : Type 0 where
-    pub kept : (o : ℕ) (n : Object F) → at new o ≡ Some n → (w : Object F) × (at old o ≡ Some w) × Remains old new ids pending o w n
+    pub kept : (o : ℕ) (n : Object F) → at new o ≡ Some n
+        → (w : Object F) × (at old o ≡ Some w) × Remains old new ids pending o w n
     -- an object that went had no other holder, and was not stuck
-    pub gone : (o : ℕ) (w : Object F) → at old o ≡ Some w → at new o ≡ None → (w.count ≢ stuck) × (w.count ≡ held parts old o + occurs o ids)
+    pub gone : (o : ℕ) (w : Object F) → at old o ≡ Some w → at new o ≡ None
+        → (w.count ≢ stuck) × (w.count ≡ held parts old o + occurs o ids)
     pub there : (o : ℕ) → at new o ≡ None → (held parts new o ≡ 0) × (occurs o pending ≡ 0)
     pub grounded : (o : ℕ) → IsGrounded parts new o
 
@@ -31,7 +36,8 @@ module _ {F : Type 0} where
   -- from the head on, each object has count 0 and names the next
   pub data Chain (g : Graph F) : Option ℕ → List ℕ → Type 0 where
     end : Chain g None []
-    more : {o : ℕ} {n : Object F} {ids : List ℕ} → at g o ≡ Some n → n.count ≡ 0 → Chain g n.next ids → Chain g (Some o) (o ∷ ids)
+    more : {o : ℕ} {n : Object F} {ids : List ℕ} → at g o ≡ Some n → n.count ≡ 0
+        → Chain g n.next ids → Chain g (Some o) (o ∷ ids)
 
   -- the objects with count 0 are those of the list, each once; the others name no next one
   pub record Listed (g : Graph F) (head : Option ℕ) : Type 0 where
@@ -43,14 +49,18 @@ module _ {F : Type 0} where
 
   -- `drop_holder` took `old` to `new`, where `head` was the first of the list and `first` is now
   pub record DropsHolder (old new : Graph F) (p : ℕ) (head first : Option ℕ) : Type 0 where
-    pub stays : (n : Object F) → at old p ≡ Some n → n.count ≡ stuck → (new ≡ old) × (first ≡ head)
-    pub lowers : (n : Object F) → at old p ≡ Some n → n.count ≢ stuck → 2 ≤ n.count → Updates old new p (Some (record n { count = n.count - 1 })) × (first ≡ head)
-    pub dies : (n : Object F) → at old p ≡ Some n → n.count ≡ 1 → Updates old new p (Some (record n { count = 0; next = head })) × (first ≡ Some p)
+    pub stays : (n : Object F) → at old p ≡ Some n → n.count ≡ stuck
+        → (new ≡ old) × (first ≡ head)
+    pub lowers : (n : Object F) → at old p ≡ Some n → n.count ≢ stuck → 2 ≤ n.count
+        → Updates old new p (Some (record n { count = n.count - 1 })) × (first ≡ head)
+    pub dies : (n : Object F) → at old p ≡ Some n → n.count ≡ 1
+        → Updates old new p (Some (record n { count = 0; next = head })) × (first ≡ Some p)
 
 module _ {F : Type 0} (parts : F → List ℕ) where
   -- each count is at most the greatest, and one that is not stuck counts the holding parts and these
   abbrev pub Enough : Graph F → List ℕ → Type 0
-  Enough old ids = (o : ℕ) (w : Object F) → at old o ≡ Some w → (w.count ≤ stuck) × (w.count ≢ stuck → held parts old o + occurs o ids ≤ w.count)
+  Enough old ids = (o : ℕ) (w : Object F) → at old o ≡ Some w
+      → (w.count ≤ stuck) × (w.count ≢ stuck → held parts old o + occurs o ids ≤ w.count)
 
   -- holders that are to go, beside a list of dying objects
   pub record Ready (g : Graph F) (pending : List ℕ) (head : Option ℕ) : Type 0 where

@@ -52,27 +52,35 @@ module _ {F : Type 0} where
   abbrev pub new_object : Option (List ℕ) → Option F → ℕ → Object F
   new_object text form depth = record { count = 1; text = text; form = form; depth = depth; next = None }
 
+  -- the object with so many more holders, up to the count that stays
+  abbrev pub counted_up : Object F → ℕ → Object F
+  counted_up n more = record n { count = min (n.count + more) stuck }
+
   -- the new graph has this at the number, and every other number keeps what it had
   pub record Updates (old new : Graph F) (o : ℕ) (slot : Option (Object F)) : Type 0 where
     pub changed : at new o ≡ slot
     pub others : (x : ℕ) → x ≢ o → at new x ≡ at old x
 
-  -- each object of the list has so many more holders, up to the count that stays, and nothing else changed
+  -- each object has a holder more for each time that it stands in the list, and nothing else changed
   pub record Shared (old : Graph F) (ids : List ℕ) (new : Graph F) : Type 0 where
-    pub kept : (o : ℕ) (n : Object F) → at old o ≡ Some n → at new o ≡ Some (record n { count = min (n.count + occurs o ids) stuck })
+    pub kept : (o : ℕ) (n : Object F) → at old o ≡ Some n → at new o ≡ Some (counted_up n (occurs o ids))
     pub none : (o : ℕ) → at old o ≡ None → at new o ≡ None
 
-  -- this object is new, each object of the list has so many more holders, and nothing else changed
+  -- this object is new, the others have a holder more for each time that they stand in the list
   pub record SharedBy (old : Graph F) (ids : List ℕ) (c : ℕ) (m : Object F) (new : Graph F) : Type 0 where
     pub fresh : at old c ≡ None
     pub changed : at new c ≡ Some m
-    pub kept : (o : ℕ) (n : Object F) → at old o ≡ Some n → at new o ≡ Some (record n { count = min (n.count + occurs o ids) stuck })
+    pub kept : (o : ℕ) (n : Object F) → at old o ≡ Some n → at new o ≡ Some (counted_up n (occurs o ids))
     pub none : (o : ℕ) → o ≢ c → at old o ≡ None → at new o ≡ None
 
 module _ {F : Type 0} (parts : F → List ℕ) where
   abbrev pub form_parts : Option F → List ℕ
   form_parts None = []
   form_parts (Some f) = parts f
+
+  -- the parts of the object of a number
+  abbrev pub parts_at : Graph F → ℕ → List ℕ
+  parts_at g o = form_parts (form_in (at g o))
 
   -- how often the object in a slot holds o
   abbrev pub holds : ℕ → Option (Object F) → ℕ
@@ -98,7 +106,8 @@ module _ {F : Type 0} (parts : F → List ℕ) where
     pub there : (p : ℕ) → at g p ≡ None → held g p ≡ 0
     -- a count is at least 1, and counts each part that holds the object, unless it is stuck
     pub counts : (o : ℕ) (n : Object F) → at g o ≡ Some n → (1 ≤ n.count) × (n.count ≤ stuck)
-    pub counted : (o : ℕ) (n : Object F) → at g o ≡ Some n → n.count ≢ stuck → held g o ≤ n.count
+    pub counted : (o : ℕ) (n : Object F) → at g o ≡ Some n → n.count ≢ stuck
+        → held g o ≤ n.count
     -- no object reaches itself
     pub grounded : (o : ℕ) → IsGrounded g o
     -- no object is in the list of the dying

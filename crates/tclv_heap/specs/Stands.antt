@@ -1,5 +1,5 @@
 -- What an object stands for, and when a graph is sound.
-use Rattle.std.specs.Prelude.{◌≡◌, ◌≢◌, ℕ, zero, suc, ◌+◌, ◌⊎◌, ◌<◌, ◌≤◌, List, [], map, Option, Some, None, IsSome}
+use Rattle.std.specs.Prelude.{◌≡◌, ℕ, zero, suc, ◌+◌, ◌⊎◌, ◌<◌, ◌≤◌, List, [], map, Option, Some, None, IsSome}
 use Rattle.tclv_heap.specs.declared.ids.Object.{Object}
 use Rattle.tclv_heap.specs.Table.{Table, Alike}
 use Rattle.tclv_heap.specs.Graph.{Graph, at, occurs, held, form_parts, text_in, form_in, depth_in, Leads, IsCounted, SharedBy}
@@ -55,14 +55,18 @@ module _ {F : Type 0} (t : Table F) where
   -- the part of soundness that speaks of texts and depths
   pub record IsSpoken (g : Graph F) : Type 0 where
     -- a form without a text spells
-    pub spoken : (o : ℕ) (n : Object F) (f : F) → at g o ≡ Some n → n.text ≡ None → n.form ≡ Some f → t.Spells f
+    pub spoken : (o : ℕ) (n : Object F) (f : F) → at g o ≡ Some n
+        → n.text ≡ None → n.form ≡ Some f → t.Spells f
     -- a text with a form fits it
-    pub fitting : (o : ℕ) (n : Object F) (s : List ℕ) (f : F) → at g o ≡ Some n → n.text ≡ Some s → n.form ≡ Some f → t.Fits s f (map (stands g) (t.parts f))
+    pub fitting : (o : ℕ) (n : Object F) (s : List ℕ) (f : F) → at g o ≡ Some n
+        → n.text ≡ Some s → n.form ≡ Some f → t.Fits s f (map (stands g) (t.parts f))
     -- without a form the kept depth is 0
     pub plain : (o : ℕ) (n : Object F) → at g o ≡ Some n → n.form ≡ None → n.depth ≡ 0
     -- with a form it is from 1 to the greatest, and above the depth of each part
-    pub shallow : (o : ℕ) (n : Object F) (f : F) → at g o ≡ Some n → n.form ≡ Some f → (1 ≤ n.depth) × (n.depth ≤ deepest)
-    pub above : (o : ℕ) (n : Object F) (f : F) (p : ℕ) → at g o ≡ Some n → n.form ≡ Some f → 0 < occurs p (t.parts f) → depth_of (at g p) < n.depth
+    pub shallow : (o : ℕ) (n : Object F) (f : F) → at g o ≡ Some n → n.form ≡ Some f
+        → (1 ≤ n.depth) × (n.depth ≤ deepest)
+    pub above : (o : ℕ) (n : Object F) (f : F) (p : ℕ) → at g o ≡ Some n → n.form ≡ Some f
+        → 0 < occurs p (t.parts f) → depth_of (at g p) < n.depth
 
   -- the graph is sound, but for what outside holders hold
   pub record IsSound (g : Graph F) : Type 0 where
@@ -81,23 +85,28 @@ module _ {F : Type 0} (t : Table F) where
 
   -- some of these objects got as their text what they stood for, and nothing else changed
   pub record Retexted (Among : ℕ → Type 0) (old new : Graph F) : Type 0 where
-    pub kept : (o : ℕ) (n : Object F) → at old o ≡ Some n → (at new o ≡ Some n) ⊎ (Among o × (n.text ≡ None) × (at new o ≡ Some (record n { text = Some (stands old o) })))
+    pub kept : (o : ℕ) (n : Object F) → at old o ≡ Some n → (at new o ≡ Some n)
+        ⊎ (Among o × (n.text ≡ None) × (at new o ≡ Some (record n { text = Some (stands old o) })))
     pub none : (o : ℕ) → at old o ≡ None → at new o ≡ None
 
-  -- a copy of an object: its form duplicated, and its text where no form spells
+  -- a copy of an object: its form duplicated, and its text exactly where there is no form that spells
   pub data Copies (n : Object F) (text : Option (List ℕ)) (form : Option F) : Type 0 where
     plain : n.form ≡ None → form ≡ None → text ≡ n.text → Copies n text form
-    spelt : {f d : F} → n.form ≡ Some f → form ≡ Some d → Alike t f d → t.Spells f → text ≡ None → Copies n text form
-    unspelt : {f d : F} → n.form ≡ Some f → form ≡ Some d → Alike t f d → (t.Spells f → ⊥) → text ≡ n.text → Copies n text form
+    spelt : {f d : F} → n.form ≡ Some f → form ≡ Some d → Alike t f d
+        → t.Spells f → text ≡ None → Copies n text form
+    unspelt : {f d : F} → n.form ≡ Some f → form ≡ Some d → Alike t f d
+        → (t.Spells f → ⊥) → text ≡ n.text → Copies n text form
 
   -- `c` is a new object, a copy of the one of `o`, whose parts are shared
   pub record Duplicates (old : Graph F) (o c : ℕ) (m : Object F) (new : Graph F) : Type 0 where
     pub shared : SharedBy old (form_parts t.parts m.form) c m new
     pub count : m.count ≡ 1
-    pub copies : (n : Object F) → at old o ≡ Some n → Copies n m.text m.form × (m.depth ≡ n.depth)
+    pub copies : (n : Object F) → at old o ≡ Some n
+        → Copies n m.text m.form × (m.depth ≡ n.depth)
     pub stands_new : stands new c ≡ said_by m.text m.form (stands old)
     pub free : held t.parts new c ≡ 0
-    pub rises : (p : ℕ) → held t.parts new p ≡ held t.parts old p + occurs p (form_parts t.parts m.form)
+    pub rises : (p : ℕ)
+        → held t.parts new p ≡ held t.parts old p + occurs p (form_parts t.parts m.form)
 
   -- a form's depth is in range and above that of each part
   pub record FitsDepth (g : Graph F) (form : F) (depth : ℕ) : Type 0 where
@@ -110,10 +119,12 @@ module _ {F : Type 0} (t : Table F) where
     pub text : text_in (at g o) ≡ Some s
     pub said : stands g o ≡ s
 
-  -- the object has this form, so it fits the text, or spells where there is none; each part is there and less deep
+  -- the object has this form: it fits the text, or spells where there is none; each part is there
   pub record HasForm (g : Graph F) (o : ℕ) (f : F) : Type 0 where
     pub form : form_in (at g o) ≡ Some f
-    pub fits : (s : List ℕ) → text_in (at g o) ≡ Some s → t.Fits s f (map (stands g) (t.parts f))
-    pub spells : text_in (at g o) ≡ None → t.Spells f × (stands g o ≡ t.spelled f (map (stands g) (t.parts f)))
+    pub fits : (s : List ℕ) → text_in (at g o) ≡ Some s
+        → t.Fits s f (map (stands g) (t.parts f))
+    pub spells : text_in (at g o) ≡ None
+        → t.Spells f × (stands g o ≡ t.spelled f (map (stands g) (t.parts f)))
     pub depth : FitsDepth g f (depth_in (at g o))
     pub there : (p : ℕ) → 0 < occurs p (t.parts f) → IsSome (at g p)

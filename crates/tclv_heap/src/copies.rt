@@ -47,9 +47,11 @@ pub(crate) fn share_parts<T: Types>(
     objects: &mut Slab<Object<T::Form>>,
     form: &Option<T::Form>,
 )
-    requires there { (p : ℕ) → 0 < occurs p (form_parts T.table.parts form.now) → IsSome (at objects.old.slots p) }
+    requires there { (p : ℕ) → 0 < occurs p (form_parts T.table.parts form.now)
+        → IsSome (at objects.old.slots p) }
     requires low { (o : ℕ) (n : Object T.Form) → at objects.old.slots o ≡ Some n → n.count ≤ stuck }
-    ensures shared { Shared objects.old.slots (form_parts T.table.parts form.now) objects.new.slots }
+    ensures shared { Shared objects.old.slots
+        (form_parts T.table.parts form.now) objects.new.slots }
     ensures len { slab_len objects.new ≡ slab_len objects.old }
     ensures capacity { objects.new.capacity ≡ objects.old.capacity }
 {

@@ -35,7 +35,8 @@ pub struct Object<F> {
 impl<F> Object<F> {
     // A new object, which one holder has.
     pub(crate) fn new(text: Option<Text>, form: Option<F>, depth: u64) -> Object<F>
-        ensures { result ≡ record { count = 1; text = text; form = form; depth = depth; next = None } }
+        ensures { result
+            ≡ record { count = 1; text = text; form = form; depth = depth; next = None } }
     {
         Object {
             count: 1,

@@ -40,7 +40,7 @@ impl<T: Types> Model for Heap<T> {
 
 impl<T: Types> Heap<T> {
     ghost use Rattle.tclv_heap.specs.declared.ids.Object.{Object};
-    ghost use Rattle.tclv_heap.specs.Graph.{at, new_object, Updates, Adds, HasOutside, held, occurs, stuck, form_parts, count_in, text_in, form_in, depth_in, Takes, Leads};
+    ghost use Rattle.tclv_heap.specs.Graph.{at, new_object, counted_up, Updates, Adds, HasOutside, held, occurs, stuck, form_parts, count_in, text_in, form_in, depth_in, Takes, Leads};
     ghost use Rattle.tclv_heap.specs.Dying.{Releases};
     ghost use Rattle.tclv_heap.specs.Holders.{Passes};
     ghost use Rattle.tclv_heap.specs.Stands.{stands, said_by, FitsDepth, depth_of, Tells, TellsBelow, Keeps, HasText, HasForm, Duplicates, Retexted, IsSound};
@@ -131,8 +131,7 @@ impl<T: Types> Heap<T> {
     pub fn share(&mut self, id: ObjId)
         requires { IsSome (at self.old.graph id) }
         ensures shared { (n : Object T.Form) → at self.old.graph id ≡ Some n
-            → Updates self.old.graph self.new.graph id
-                (Some (record n { count = min (n.count + 1) stuck })) }
+            → Updates self.old.graph self.new.graph id (Some (counted_up n 1)) }
         ensures holders { Passes T.table.parts self.old.graph [] self.new.graph (id ∷ []) }
         ensures keeps { Keeps T.table self.old.graph self.new.graph }
         ensures rest { self.new ≡ record self.old { graph = self.new.graph } }

@@ -19,7 +19,8 @@ pub(crate) fn release_one<T: Types>(types: &T, objects: &mut Slab<Object<T::Form
     sweep(types, objects, first);
 }
 
-/// Takes one outside holder from each part of the form, and removes each object that has no holder then.
+/// Takes one outside holder from each part of the form, and removes each object that has no holder
+/// then.
 pub(crate) fn release_form<T: Types>(
     types: &T,
     objects: &mut Slab<Object<T::Form>>,
@@ -27,7 +28,8 @@ pub(crate) fn release_form<T: Types>(
 )
     requires sound { IsCounted T.table.parts objects.old.slots }
     requires takes { Takes T.table.parts objects.old.slots (form_parts T.table.parts form.now) }
-    ensures released { Releases T.table.parts objects.old.slots (form_parts T.table.parts form.now) objects.new.slots }
+    ensures released { Releases T.table.parts objects.old.slots
+        (form_parts T.table.parts form.now) objects.new.slots }
     ensures sound { IsCounted T.table.parts objects.new.slots }
 {
     if let Some(form) = form {
@@ -60,7 +62,8 @@ fn drop_parts<T: Types>(
     first: Option<ObjId>,
 ) -> Option<ObjId>
     requires { Ready T.table.parts objects.old.slots (T.table.parts form.now) first }
-    ensures dropped { Dying T.table.parts objects.old.slots (T.table.parts form.now) [] objects.new.slots }
+    ensures dropped { Dying T.table.parts objects.old.slots
+        (T.table.parts form.now) [] objects.new.slots }
     ensures listed { Listed objects.new.slots result }
     ensures len { slab_len objects.new ≡ slab_len objects.old }
 {
@@ -72,7 +75,8 @@ fn drop_parts<T: Types>(
     head
 }
 
-// Takes a holder from the object, and puts the object before `head` where it was the last. Gives the list's first object.
+// Takes a holder from the object, and puts the object before `head` where that holder was its last.
+// Gives the list's first object.
 fn drop_holder<F>(objects: &mut Slab<Object<F>>, id: ObjId, head: Option<ObjId>) -> Option<ObjId>
     requires there { IsSome (at objects.old.slots id) }
     requires held { 1 ≤ count_in (at objects.old.slots id) }

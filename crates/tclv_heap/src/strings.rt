@@ -1,7 +1,6 @@
 // Texts that are made from forms.
-ghost use Rattle.std.specs.Prelude.{◌≡◌, ◌<◌, ◌≤◌, ◌⊎◌, ℕ, List, length, Some, None, [], IsSome, IfSome, IfNone, OnOk, OnErr, slice_index};
-ghost use Rattle.tclv_heap.specs.declared.ids.Object.{Object};
-ghost use Rattle.tclv_heap.specs.Graph.{at, occurs, form_in, text_in, form_parts, stuck, Leads};
+ghost use Rattle.std.specs.Prelude.{◌≡◌, ◌<◌, ◌≤◌, ◌^◌, ℕ, length, Some, IsSome, IfSome, IfNone, OnOk, OnErr, slice_index};
+ghost use Rattle.tclv_heap.specs.Graph.{at, occurs, text_in, parts_at, Leads};
 ghost use Rattle.tclv_heap.specs.Stands.{IsSound, Tells, TellsBelow, Retexted, SaysSame, stands};
 ghost use Rattle.tclv_heap.specs.Noted.{Noted, Untexted};
 
@@ -25,8 +24,10 @@ pub(crate) fn make_text<T: Types>(
     requires told { TellsBelow T.table.parts objects.old.slots id }
     ensures sound { IsSound T.table objects.new.slots }
     ensures says { SaysSame T.table objects.old.slots objects.new.slots }
-    ensures retexts { Retexted T.table (Leads T.table.parts objects.old.slots id) objects.old.slots objects.new.slots }
-    ensures made { OnOk result (text_in (at objects.new.slots id) ≡ Some (stands T.table objects.old.slots id)) }
+    ensures retexts { Retexted T.table (Leads T.table.parts objects.old.slots id)
+        objects.old.slots objects.new.slots }
+    ensures made { OnOk result
+        (text_in (at objects.new.slots id) ≡ Some (stands T.table objects.old.slots id)) }
     ensures refused { OnErr result (objects.new.slots ≡ objects.old.slots) }
 {
     let mut made = Vec::new(alloc);
@@ -49,8 +50,10 @@ fn make_texts<T: Types>(
     requires there { IsSome (at objects.old.slots id) }
     requires told { TellsBelow T.table.parts objects.old.slots id }
     ensures sound { IsSound T.table objects.new.slots }
-    ensures says { (o : ℕ) → IsSome (at objects.old.slots o) → stands T.table objects.new.slots o ≡ stands T.table objects.old.slots o }
-    ensures noted { Noted T.table (Leads T.table.parts objects.old.slots id) objects.old.slots made.old.items objects.new.slots made.new.items }
+    ensures says { (o : ℕ) → IsSome (at objects.old.slots o)
+        → stands T.table objects.new.slots o ≡ stands T.table objects.old.slots o }
+    ensures noted { Noted T.table (Leads T.table.parts objects.old.slots id)
+        objects.old.slots made.old.items objects.new.slots made.new.items }
     ensures made { OnOk result (IsSome (text_in (at objects.new.slots id))) }
 {
     if objects[id.0].text.is_some() {
@@ -72,9 +75,10 @@ fn kid_of<T: Types>(
     k: usize,
 ) -> Option<ObjId>
     requires { IsSome (at objects.now.slots id) }
-    ensures some { IfSome result (λ p. (k < length (form_parts T.table.parts (form_in (at objects.now.slots id)))) × (p ≡ slice_index (form_parts T.table.parts (form_in (at objects.now.slots id))) k)) }
-    ensures none { IfNone result (length (form_parts T.table.parts (form_in (at objects.now.slots id))) ≤ k) }
-    ensures small { length (form_parts T.table.parts (form_in (at objects.now.slots id))) ≤ stuck }
+    ensures some { IfSome result (λ p. (k < length (parts_at T.table.parts objects.now.slots id))
+        × (p ≡ slice_index (parts_at T.table.parts objects.now.slots id) k)) }
+    ensures none { IfNone result (length (parts_at T.table.parts objects.now.slots id) ≤ k) }
+    ensures small { length (parts_at T.table.parts objects.now.slots id) < 2 ^ 64 }
 {
     match &objects[id.0].form {
         Some(form) => {
@@ -99,10 +103,13 @@ fn spell_text<T: Types>(
     requires sound { IsSound T.table objects.old.slots }
     requires there { IsSome (at objects.old.slots id) }
     requires tells { Tells objects.old.slots id }
-    requires kids { (n : Object T.Form) (f : T.Form) (p : ℕ) → at objects.old.slots id ≡ Some n → n.text ≡ None → n.form ≡ Some f → 0 < occurs p (T.table.parts f) → IsSome (text_in (at objects.old.slots p)) }
+    requires kids { (p : ℕ) → 0 < occurs p (parts_at T.table.parts objects.old.slots id)
+        → IsSome (text_in (at objects.old.slots p)) }
     ensures sound { IsSound T.table objects.new.slots }
-    ensures says { (o : ℕ) → IsSome (at objects.old.slots o) → stands T.table objects.new.slots o ≡ stands T.table objects.old.slots o }
-    ensures noted { Noted T.table (Leads T.table.parts objects.old.slots id) objects.old.slots made.old.items objects.new.slots made.new.items }
+    ensures says { (o : ℕ) → IsSome (at objects.old.slots o)
+        → stands T.table objects.new.slots o ≡ stands T.table objects.old.slots o }
+    ensures noted { Noted T.table (Leads T.table.parts objects.old.slots id)
+        objects.old.slots made.old.items objects.new.slots made.new.items }
     ensures made { OnOk result (IsSome (text_in (at objects.new.slots id))) }
 {
     let object = &objects[id.0];

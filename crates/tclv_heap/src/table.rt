@@ -53,8 +53,10 @@ pub trait Types {
         out: &mut Vec<u8>,
     ) -> Result<(), NoMemory>
         requires spells { table.Spells f.now }
-        requires kids { (k : ℕ) → k < length (table.parts f.now) → K.has kids.now (slice_index (table.parts f.now) k) }
-        ensures ok { OnOk result (Appends out.old.items out.new.items (table.spelled f.now (map (K.stands kids.now) (table.parts f.now)))) }
+        requires kids { (k : ℕ) → k < length (table.parts f.now)
+            → K.has kids.now (slice_index (table.parts f.now) k) }
+        ensures ok { OnOk result (Appends out.old.items out.new.items
+            (table.spelled f.now (map (K.stands kids.now) (table.parts f.now)))) }
         ensures err { OnErr result (out.new.items ≡ out.old.items) };
 
     /// The same form once more, with the same parts. Their holders stay with the caller.

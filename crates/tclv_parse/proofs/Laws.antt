@@ -7,7 +7,7 @@ use Rattle.tclv_text.specs.declared.cursors.Sign.TheVariants as s
 use Rattle.tclv_parse.specs.declared.pieces.PieceKind.{PieceKind}
 use Rattle.tclv_parse.specs.declared.faults.ParseFault.{ParseFault}
 use Rattle.tclv_parse.specs.Runs.{Text}
-use Rattle.tclv_parse.specs.Readings.{Piece, Reading, End, before, emit, valued, valued_end, join, join_end, done}
+use Rattle.tclv_parse.specs.Readings.{Piece, Reading, End, before, emit, valued, valued_end, join, join_end}
 use Rattle.tclv_parse.specs.Places.{Out, end_of, seen, chain_by, chain, halt, stop}
 use Rattle.tclv_parse.specs.Gives.{joined}
 

@@ -1,8 +1,7 @@
 -- Places, and what is still to come there.
-use Rattle.std.proofs.Common.{◌≡◌, ℕ, zero, suc, ◌+◌, ◌-◌, ◌<◌, ◌≤◌, Bool, true, false, List, [], ◌∷◌, length, get_or, set, take, drop, refl, sym, ap, ap₂, subst, ◌∙◌, arith, nat_lt, get_or-set_same, get_or-set_other, Result, Ok, Err, Option, Some, None}
+use Rattle.std.proofs.Common.{◌≡◌, ℕ, zero, suc, ◌+◌, ◌-◌, ◌<◌, ◌≤◌, true, false, List, ◌∷◌, length, get_or, set, take, drop, refl, sym, ap, ap₂, subst, ◌∙◌, arith, nat_lt, get_or-set_same, get_or-set_other, Result, Ok, Option}
 use Rattle.std.proofs.lemmas.Bool.Decides.{nat_tests}
 use Rattle.std.specs.Str.{chars}
-use Rattle.tclv_text.specs.Texts.{IsText}
 use Rattle.tclv_parse.specs.declared.runs.Form.{Form}
 use Rattle.tclv_parse.specs.declared.runs.Form.TheVariants as form
 use Rattle.tclv_parse.specs.declared.modes.Mode.{Mode}

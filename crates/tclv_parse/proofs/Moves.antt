@@ -1,5 +1,5 @@
 -- What is still to come at a place, one piece at a time.
-use Rattle.std.proofs.Common.{◌≡◌, ℕ, zero, suc, ◌-◌, ◌==◌, Bool, true, false, List, [], ◌∷◌, ◌++◌, take, drop, Ok, Err, refl, sym, ap, ◌∙◌, if◌then◌else◌}
+use Rattle.std.proofs.Common.{◌≡◌, ℕ, suc, ◌-◌, ◌==◌, Bool, true, false, List, [], ◌∷◌, ◌++◌, take, drop, refl, ap, ◌∙◌, if◌then◌else◌}
 use Rattle.tclv_text.specs.Cursors.{sign, escape_len, escape_char}
 use Rattle.tclv_text.specs.declared.cursors.Sign.{Sign}
 use Rattle.tclv_text.specs.declared.cursors.Sign.TheVariants as s
@@ -7,7 +7,6 @@ use Rattle.tclv_parse.specs.declared.runs.Form.{Form}
 use Rattle.tclv_parse.specs.declared.runs.Form.TheVariants as form
 use Rattle.tclv_parse.specs.declared.runs.Run.{Run}
 use Rattle.tclv_parse.specs.declared.runs.Run.TheVariants as run
-use Rattle.tclv_parse.specs.declared.modes.Mode.{Mode}
 use Rattle.tclv_parse.specs.declared.modes.Mode.TheVariants as m
 use Rattle.tclv_parse.specs.declared.pieces.PieceKind.{PieceKind}
 use Rattle.tclv_parse.specs.declared.pieces.PieceKind.TheVariants as k
@@ -21,9 +20,8 @@ use Rattle.tclv_parse.specs.Runs.{Text, ends_word, ends_command, stops, run_len,
 use Rattle.tclv_parse.specs.Readings.{Piece, Reading, before, emit, valued, join, done, fails}
 use Rattle.tclv_parse.specs.Grammar.{Deeper, text_before, text_part, word_of, named_by, variable_by, part_by, parts_by, parts, raw, braced_by, braced, closed, end_quote_by, end_quote, end_index_by, end_index, word_by, plain_word, word, words_by, words_at, words, script_by, script, command, halts, ends, enclosed, deeper_by}
 use Rattle.tclv_parse.specs.Places.{Out, seen, seen_course, chain, halt, stop, script_out, after_word, after_parts, in_parts, named_out, rest_of, opening, is_inside, behind, coming}
-use Rattle.tclv_parse.proofs.Laws.{seen-valued, seen-join, chain-chain, chain-before, chain-local}
-use Rattle.tclv_parse.proofs.RunLaws.{stops-end}
-use Rattle.tclv_parse.proofs.Rules.{IsDeeper, deeper-is, braced-is, parts-is, words-is, script-is, seen-command, seen-enclosed}
+use Rattle.tclv_parse.proofs.Laws.{seen-valued, seen-join, chain-chain, chain-before}
+use Rattle.tclv_parse.proofs.Rules.{IsDeeper, braced-is, parts-is, words-is, script-is, seen-command, seen-enclosed}
 
 -- a piece that a reading begins with
 begun : {A : Type 0} (kind : PieceKind) (n : ℕ) (t : Text) (f : Text → Reading A) (g : Text → Out) → chain (seen (emit kind n t f)) g ≡ before (kind, take n t) (chain (seen (f (drop n t))) g)

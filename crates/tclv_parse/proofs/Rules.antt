@@ -1,5 +1,5 @@
 -- Each rule is its step, and its pieces tile its text.
-use Rattle.std.proofs.Common.{◌≡◌, ℕ, zero, suc, ◌+◌, ◌-◌, ◌==◌, ◌<◌, ◌≤◌, Bool, true, false, List, [], ◌∷◌, ◌++◌, length, drop, take, Ok, Err, Result, refl, sym, ap, subst, ◌∙◌, arith, if◌then◌else◌}
+use Rattle.std.proofs.Common.{◌≡◌, ℕ, zero, suc, ◌-◌, ◌==◌, ◌<◌, Bool, true, false, List, [], ◌∷◌, ◌++◌, length, drop, take, Ok, Err, Result, refl, sym, ap, subst, ◌∙◌, arith, if◌then◌else◌}
 use Rattle.std.proofs.Math.Path.{fun_ext}
 use Rattle.tclv_text.specs.Cursors.{sign, escape_len, escape_char}
 use Rattle.tclv_text.specs.declared.cursors.Sign.{Sign}
@@ -18,10 +18,10 @@ use Rattle.tclv_parse.specs.declared.tree.Command.{Command}
 use Rattle.tclv_parse.specs.declared.tree.Script.{Script}
 use Rattle.tclv_parse.specs.Runs.{Text, ends_word, ends_command, stops, step, run_len, run_end, level_of, expands}
 use Rattle.tclv_parse.specs.Readings.{Piece, Reading, End, done, fails, emit, valued, join}
-use Rattle.tclv_parse.specs.Grammar.{Deeper, Course, text_before, text_part, word_of, named_by, variable_by, part_by, parts_by, parts_step, parts, raw, braced_by, braced_step, braced, closed, end_quote_by, end_quote, end_index_by, end_index, word_by, plain_word, word, words_by, words_at, words_step, words, ends, halts, place, command_of, command_before, command, script_by, script_step, script, enclosed, enclosed_end, too_deep, deeper_by, course}
-use Rattle.tclv_parse.specs.Places.{Out, seen, seen_course, end_of, chain_by, chain, halt, stop}
+use Rattle.tclv_parse.specs.Grammar.{Deeper, Course, text_before, text_part, word_of, named_by, variable_by, part_by, parts_by, parts_step, parts, raw, braced_by, braced_step, braced, closed, end_quote_by, end_quote, end_index_by, end_index, word_by, plain_word, word, words_by, words_at, words_step, words, ends, halts, place, command_of, command_before, command, script_by, script_step, script, enclosed, deeper_by}
+use Rattle.tclv_parse.specs.Places.{seen, seen_course, end_of, chain_by, chain, stop}
 use Rattle.tclv_parse.proofs.FixLaws.{fix-is, fix-holds}
-use Rattle.tclv_parse.proofs.Laws.{less, some, Tiles, stop-tiles, halt-tiles, before-tiles, chain-tiles, valued-tiles, join-tiles, rest_le, Strict, before-strict, halt-strict, emit-strict, emit_valued-strict, chain-strict, join-strict, valued-strict, emit-tiles, emit_valued-tiles, emit_valued-local, emit-local, join-local}
+use Rattle.tclv_parse.proofs.Laws.{less, some, Tiles, stop-tiles, halt-tiles, before-tiles, chain-tiles, valued-tiles, join-tiles, rest_le, Strict, halt-strict, emit-strict, emit_valued-strict, join-strict, valued-strict, emit-tiles, emit_valued-tiles, emit_valued-local, emit-local, join-local}
 use Rattle.tclv_parse.proofs.RunLaws.{passes, run-taken, stops-end, literal-step, brace-step}
 
 abbrev Tiling : {A : Type 0} → (Text → Reading A) → Text → Type 0

@@ -1,5 +1,5 @@
 -- The pieces of a whole text.
-use Rattle.std.proofs.Common.{◌≡◌, ℕ, ◌<◌, ◌≤◌, ◌==◌, Bool, true, false, List, [], ◌∷◌, length, drop, Ok, Err, Some, None, Result, refl, sym, ap, subst, ◌∙◌, arith, if◌then◌else◌}
+use Rattle.std.proofs.Common.{◌≡◌, ℕ, ◌<◌, ◌==◌, Bool, true, false, List, [], ◌∷◌, length, drop, Ok, Err, Result, refl, sym, ap, subst, ◌∙◌, arith, if◌then◌else◌}
 use Rattle.tclv_text.specs.Cursors.{sign, sign_of, is_separator, is_name, begins_variable}
 use Rattle.tclv_text.specs.declared.cursors.Sign.{Sign}
 use Rattle.tclv_text.specs.declared.cursors.Sign.TheVariants as s

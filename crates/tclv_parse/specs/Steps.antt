@@ -16,7 +16,7 @@ use Rattle.tclv_parse.specs.declared.tokens.Tokens.TheInside.{Inside}
 use Rattle.tclv_parse.specs.Runs.{Text, level_of, run_end}
 use Rattle.tclv_parse.specs.Readings.{before}
 use Rattle.tclv_parse.specs.Grammar.{Deeper, deeper_by, Pieces, fault_of}
-use Rattle.tclv_parse.specs.Places.{Out, halt, stop, rest_of, opening, after_parts, is_inside, behind, coming, frames}
+use Rattle.tclv_parse.specs.Places.{Out, halt, stop, rest_of, opening, after_parts, is_inside, behind, frames}
 
 -- ---- places
 

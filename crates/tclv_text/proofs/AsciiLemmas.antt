@@ -1,5 +1,5 @@
 -- A text with a character that is not ASCII is as much to a test of ASCII, whichever way it is given.
-use Rattle.std.proofs.Common.{◌≡◌, ℕ, zero, suc, ◌+◌, ◌-◌, ◌<◌, ◌≤◌, Bool, true, false, List, [], ◌∷◌, ◌++◌, length, get_or, take, drop, sym, ap, ◌∙◌, subst, refl, arith, reverse, ltb, ◌&&◌}
+use Rattle.std.proofs.Common.{◌≡◌, ℕ, suc, ◌+◌, ◌-◌, ◌<◌, ◌≤◌, Bool, true, false, List, [], ◌∷◌, ◌++◌, length, get_or, take, drop, sym, ap, ◌∙◌, subst, refl, arith, reverse, ltb}
 use Rattle.std.proofs.lemmas.List.{length-drop, length-take, get_or-drop, get_or-take, get_or-reverse}
 use Rattle.std.proofs.lemmas.List.Sums.{prefix_len_passes}
 use Rattle.std.proofs.lemmas.Bool.{cases_lt, ne_eqb, and_left, and_right, and_parts, false≢true}
@@ -76,7 +76,6 @@ back_ends p fails xs h =
 
 pub tail_high : (c : ℕ) (cs : List ℕ) → c < 128 → HasHigh (c ∷ cs) → HasHigh cs
 tail_high c cs l h = drop_high 1 (c ∷ cs) h (⊎_elim (λ (z : h.at < 1). let e : h.at ≡ 0 = omega arith in absurd (omega (arith, subst (λ k. 128 ≤ get_or (c ∷ cs) k 0) e h.high))) (λ (g : 1 ≤ h.at). g) (cases_lt h.at 1))
-
 
 high_lower : (x : ℕ) → 128 ≤ x → 128 ≤ to_ascii_lowercase x
 high_lower x h = grind (arith, nat_tests)

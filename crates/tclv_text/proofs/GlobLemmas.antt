@@ -1,6 +1,6 @@
 -- Laws of glob patterns.
-use Rattle.std.proofs.Common.{◌≡◌, ℕ, zero, suc, ◌+◌, ◌<◌, ◌≤◌, Bool, true, false, not, cond, List, [], ◌∷◌, Option, Some, None, length, take, drop, sym, ap, ◌∙◌, subst, refl, arith, eqb, ◌&&◌, ◌||◌}
-use Rattle.std.proofs.lemmas.Bool.{cases_Bool, cases_eq, cond-true, cond-false, and_parts, and_from, and_left, or_left, or_right, or_cases, or_from, eqb-true, eq-eqb, ne_eqb, not-true, not_from_false, true≢false, false≢true}
+use Rattle.std.proofs.Common.{◌≡◌, ℕ, zero, suc, ◌+◌, Bool, true, false, not, cond, List, [], ◌∷◌, Some, None, length, drop, sym, ap, ◌∙◌, subst, refl, arith, eqb, ◌&&◌, ◌||◌}
+use Rattle.std.proofs.lemmas.Bool.{cases_Bool, cond-true, cond-false, and_parts, and_from, or_left, or_right, or_cases, eqb-true, eq-eqb, ne_eqb, not_from_false, false≢true}
 use Rattle.std.proofs.lemmas.List.Sums.{take_while-cons}
 use Rattle.std.proofs.lemmas.List.{drop-drop}
 use Rattle.std.specs.List.{prefix_len, take_while}
@@ -8,8 +8,8 @@ use Rattle.std.specs.Str.{chars}
 use Rattle.std.proofs.lemmas.Str.{encodes-chars}
 use lib.Utf8.{encodes}
 use Rattle.tclv_text.specs.Texts.{IsText}
-use mathlib.Core.Logic.{⊎_elim, ◌⊎◌, inl, inr}
-use Rattle.tclv_text.specs.Globs.{is_between, is_member, is_open, is_escaped, fits_one, taken, somewhere, begins, is_empty, fits_behind, fits, folded}
+use mathlib.Core.Logic.{⊎_elim}
+use Rattle.tclv_text.specs.Globs.{is_between, is_member, is_open, fits_one, taken, somewhere, begins, is_empty, fits_behind, fits, folded}
 use Rattle.tclv_text.specs.GlobSearch.{points, behind_set, range_end, Passes}
 
 pub no_points : (nocase : Bool) (bs : List ℕ) → length bs ≡ 0 → points nocase bs ≡ []
@@ -42,13 +42,13 @@ or_assoc false b c = refl
 opens : (x : ℕ) → (x ≡ 93 → ⊥) → is_open x ≡ true
 opens x h = not_from_false _ (ne_eqb x 93 h)
 
-front_open : (x : ℕ) (s : List ℕ) → is_open x ≡ true → take_while is_open (x ∷ s) ≡ x ∷ take_while is_open s
+pub front_open : (x : ℕ) (s : List ℕ) → is_open x ≡ true → take_while is_open (x ∷ s) ≡ x ∷ take_while is_open s
 front_open x s h = take_while-cons is_open x s ∙ cond-true _ _ _ h
 
 front_closed : (x : ℕ) (s : List ℕ) → is_open x ≡ false → take_while is_open (x ∷ s) ≡ []
 front_closed x s h = take_while-cons is_open x s ∙ cond-false _ _ _ h
 
-behind_open : (x : ℕ) (s : List ℕ) → is_open x ≡ true → behind_set (x ∷ s) ≡ behind_set s
+pub behind_open : (x : ℕ) (s : List ℕ) → is_open x ≡ true → behind_set (x ∷ s) ≡ behind_set s
 behind_open x s h =
     let e : 1 + prefix_len is_open s + 1 ≡ suc (prefix_len is_open s + 1) = omega arith in
     ap (λ n. drop (n + 1) (x ∷ s)) (cond-true _ _ _ h) ∙ ap (λ n. drop n (x ∷ s)) e
@@ -72,8 +72,7 @@ member_range c a b (d ∷ x ∷ s) n e =
     let q : Some b ≡ Some x = e ∙ cond-true _ _ _ t in
     let same : x ≡ b = cc in
     let open_d = opens d (λ k. absurd (omega arith)) in
-    let front = front_open a (d ∷ x ∷ s) (opens a n) ∙ ap (λ y. a ∷ y) (front_open d (x ∷ s) open_d ∙ ap (λ y. d ∷ y) (front_open x s p.1)) in
-    (
+    let front = front_open a (d ∷ x ∷ s) (opens a n) ∙ ap (λ y. a ∷ y) (front_open d (x ∷ s) open_d ∙ ap (λ y. d ∷ y) (front_open x s p.1)) in (
       ap (is_member c) front ∙ cond-true _ _ _ p.0 ∙ ap (λ y. is_between a y c || is_member c (set s)) same,
       behind_open a (d ∷ x ∷ s) (opens a n) ∙ behind_open d (x ∷ s) open_d ∙ behind_open x s p.1,
     ))
@@ -122,7 +121,7 @@ pub closed_set : (x : ℕ) (s : List ℕ) → x ≡ 93 → take_while is_open (x
 closed_set x s e = front_closed x s (ap not (eq-eqb x 93 e))
 
 -- A pattern behind its first characters.
-behind_is : (n : ℕ) (p : List ℕ) → fits_behind n p ≡ fits (drop n p)
+pub behind_is : (n : ℕ) (p : List ℕ) → fits_behind n p ≡ fits (drop n p)
 behind_is zero p = refl
 behind_is (suc n) [] = refl
 behind_is (suc n) (c ∷ p) = behind_is n p
@@ -172,17 +171,17 @@ pub passes_end : (p0 t0 p t : List ℕ) → Passes p0 t0 p t → p ≡ [] → fi
 passes_end p0 t0 p t h e = h.same ∙ ap (λ y. fits y t) e
 
 -- Some place of a text.
-somewhere_here : (f : List ℕ → Bool) (t : List ℕ) → f t ≡ true → somewhere f t ≡ true
+pub somewhere_here : (f : List ℕ → Bool) (t : List ℕ) → f t ≡ true → somewhere f t ≡ true
 somewhere_here f [] h = h
 somewhere_here f (c ∷ t) h = or_left (f (c ∷ t)) _ h
 
-somewhere_drop : (f : List ℕ → Bool) (n : ℕ) (t : List ℕ) → somewhere f (drop n t) ≡ true → somewhere f t ≡ true
+pub somewhere_drop : (f : List ℕ → Bool) (n : ℕ) (t : List ℕ) → somewhere f (drop n t) ≡ true → somewhere f t ≡ true
 somewhere_drop f zero t h = h
 somewhere_drop f (suc n) [] h = h
 somewhere_drop f (suc n) (c ∷ t) h = or_right (f (c ∷ t)) _ (somewhere_drop f n t h)
 
 -- the place
-somewhere_at : (f : List ℕ → Bool) (t : List ℕ) → somewhere f t ≡ true → (k : ℕ) × (f (drop k t) ≡ true)
+pub somewhere_at : (f : List ℕ → Bool) (t : List ℕ) → somewhere f t ≡ true → (k : ℕ) × (f (drop k t) ≡ true)
 somewhere_at f [] h = (0, h)
 somewhere_at f (c ∷ t) h =
     ⊎_elim (λ (e : f (c ∷ t) ≡ true). let r : (k : ℕ) × (f (drop k (c ∷ t)) ≡ true) = (0, e) in r) (λ (e : somewhere f t ≡ true). let i = somewhere_at f t e in let r : (k : ℕ) × (f (drop k (c ∷ t)) ≡ true) = (suc i.0, i.1) in r) (or_cases (f (c ∷ t)) (somewhere f t) h)

@@ -1,12 +1,12 @@
 -- Where a text may be cut into a place and a number: at one sign only.
-use Rattle.std.proofs.Common.{lit<, ◌≡◌, ℕ, zero, suc, ◌+◌, ◌-◌, ◌*◌, ◌<◌, ◌≤◌, Bool, true, false, not, cond, List, [], ◌∷◌, ◌++◌, Option, Some, None, Result, Ok, Err, length, get_or, take, drop, sym, ap, ◌∙◌, subst, refl, arith, eqb, ◌||◌, reverse, min, append_assoc, ℤ, pos, neg_ℤ, ◌+ℤ◌, ◌-ℤ◌, ◌≤ℤ◌, ◌^◌, to_z, of_z}
+use Rattle.std.proofs.Common.{lit<, ◌≡◌, ℕ, zero, suc, ◌+◌, ◌-◌, ◌*◌, ◌<◌, ◌≤◌, Bool, true, false, not, cond, List, [], ◌∷◌, ◌++◌, Option, Some, None, Result, Ok, Err, length, get_or, take, drop, sym, ap, ◌∙◌, subst, refl, arith, eqb, reverse, min, append_assoc, ℤ, pos, neg_ℤ, ◌+ℤ◌, ◌-ℤ◌, ◌≤ℤ◌, ◌^◌, to_z, of_z}
 use mir.Syntax.{w128}
 use Rattle.std.proofs.lemmas.Int.{ints}
-use Rattle.std.proofs.lemmas.List.{length-drop, length-take, length-append, append-nil, get_or-append-add, take_all, length-reverse, get_or-drop, get_or-take, get_or-reverse, get_or_append_left, take_at, drop_at, take-append-drop}
+use Rattle.std.proofs.lemmas.List.{length-drop, length-take, length-append, append-nil, get_or-append-add, take_all, get_or-drop, get_or-take, get_or-reverse, get_or_append_left, take-append-drop}
 use Rattle.std.proofs.Math.Seq.{get_or-append_seam, drop-cons}
 use Rattle.std.proofs.Math.Numerals.{add-one}
-use Rattle.std.proofs.lemmas.List.Sums.{prefix_len_passes, prefix_len_is, prefix_len-le-length}
-use Rattle.std.proofs.lemmas.Bool.{cases_lt, cases_eq, cases_Bool, cond-true, cond-false, ne_eqb, or_parts, or_left, or_right, or_from, not_from_false, not_from_true, false_from_ne_true, true≢false, false≢true}
+use Rattle.std.proofs.lemmas.List.Sums.{prefix_len_passes, prefix_len_is}
+use Rattle.std.proofs.lemmas.Bool.{cases_lt, cases_Bool, cond-true, cond-false, ne_eqb, or_parts, or_left, or_right, not_from_false, not_from_true, false_from_ne_true, true≢false}
 use Rattle.std.proofs.lemmas.Bool.Decides.{nat_tests}
 use Rattle.std.proofs.lemmas.Slice.Eq.{bytes_eq-Decides}
 use Rattle.std.specs.Prelude.{codes}
@@ -162,7 +162,7 @@ end_behind (suc (suc (suc k))) h = absurd (omega arith)
 end_body : HasBody (codes "end")
 end_body = record { at = 0; inside = lit< tt; lead = λ k h. absurd (omega arith); body = refl; behind = λ k g h. end_behind k h }
 
-base_body : (len : ℕ) (u : List ℕ) (a : ℤ) → base len u ≡ Some a → HasBody u
+pub base_body : (len : ℕ) (u : List ℕ) (a : ℤ) → base len u ≡ Some a → HasBody u
 base_body len u a e =
     ⊎_elim
     (λ (q : bytes_eq u (codes "end") ≡ true). subst HasBody (sym ((bytes_eq-Decides u (codes "end")).0 q)) end_body)
@@ -174,23 +174,23 @@ base_body len u a e =
     ok_body (Err f) w h = let n : None ≡ Some a = h in absurd (cc)
 
 -- a sign behind such a text is the place to cut
-sign_behind : (u v : List ℕ) (c : ℕ) → HasBody u → is_sign c ≡ true → sign_place (u ++ c ∷ v) ≡ length u
+pub sign_behind : (u v : List ℕ) (c : ℕ) → HasBody u → is_sign c ≡ true → sign_place (u ++ c ∷ v) ≡ length u
 unfolding sign_place
 sign_behind u v c b e =
     let t = u ++ c ∷ v in
     let long : length t ≡ length u + suc (length v) = length-append u (c ∷ v) in
     let same = λ (k : ℕ) (h : k < length u). get_or_append_left u (c ∷ v) 0 k h in
     let lead : prefix_len is_lead t ≡ b.at = prefix_len_is is_lead t b.at 0 (omega (arith, b.inside))
-        (λ k h. ap is_lead (same k (omega (arith, b.inside))) ∙ b.lead k h)
-        (λ h. ap is_lead (same b.at b.inside) ∙ b.body) in
+    (λ k h. ap is_lead (same k (omega (arith, b.inside))) ∙ b.lead k h)
+    (λ h. ap is_lead (same b.at b.inside) ∙ b.body) in
     let n = length u - b.at in
     let at : b.at + n ≡ length u = omega (arith, b.inside) in
     let more : prefix_len (λ x. not (is_sign x)) (drop b.at t) ≡ n = prefix_len_is (λ x. not (is_sign x)) (drop b.at t) n 0 (omega (arith, length-drop b.at t))
-        (λ k h. not_from_false _ (ap is_sign (get_or-drop b.at t k 0 ∙ same (b.at + k) (omega arith)) ∙ b.behind (b.at + k) (omega arith) (omega arith)))
-        (λ h. not_from_true _ (ap is_sign (get_or-drop b.at t n 0 ∙ ap (λ k. get_or t k 0) at ∙ get_or-append_seam u c v 0) ∙ e)) in
+    (λ k h. not_from_false _ (ap is_sign (get_or-drop b.at t k 0 ∙ same (b.at + k) (omega arith)) ∙ b.behind (b.at + k) (omega arith) (omega arith)))
+    (λ h. not_from_true _ (ap is_sign (get_or-drop b.at t n 0 ∙ ap (λ k. get_or t k 0) at ∙ get_or-append_seam u c v 0) ∙ e)) in
     ap (λ k. k + prefix_len (λ x. not (is_sign x)) (drop k t)) lead ∙ ap (λ k. b.at + k) more ∙ at
 
-no_sign_none : (a b : ℤ) (c : ℕ) → is_sign c ≡ false → moved (Some a) c (Some b) ≡ None
+pub no_sign_none : (a b : ℤ) (c : ℕ) → is_sign c ≡ false → moved (Some a) c (Some b) ≡ None
 no_sign_none a b c e = let p = or_parts (eqb c 43) (eqb c 45) e in cond-false _ _ _ p.0 ∙ cond-false _ _ _ p.1
 
 not_moved : (o w : Option ℤ) (c : ℕ) → ((a : ℤ) → o ≡ Some a → is_sign c ≡ true → ⊥) → moved o c w ≡ None
@@ -221,7 +221,7 @@ or_none : (o : Option ℤ) → option_or o None ≡ o
 or_none None = refl
 or_none (Some a) = refl
 
-cut_some : (len : ℕ) (u a b : List ℕ) (c : ℕ) → sign_place (u ++ (a ++ c ∷ b)) ≡ length u + length a → cut len u (a ++ c ∷ b) ≡ moved (base len (u ++ a)) c (result_ok (whole b))
+pub cut_some : (len : ℕ) (u a b : List ℕ) (c : ℕ) → sign_place (u ++ (a ++ c ∷ b)) ≡ length u + length a → cut len u (a ++ c ∷ b) ≡ moved (base len (u ++ a)) c (result_ok (whole b))
 cut_some len u [] b c e =
     let m = moved (base len u) c (result_ok (whole b)) in
     let more = length_more u c in
@@ -298,6 +298,7 @@ cut_high len u (c ∷ v) h =
     ap (λ o. option_or o (cut len (u ++ c ∷ []) v)) here ∙ rest
 
 place_high : (len : ℕ) (t : List ℕ) → HasHigh t → place t len ≡ None
+unfolding place
 place_high len t h = ap (λ o. option_or o (cut len [] t)) (base_high len t h) ∙ cut_high len [] t h
 
 pub place_lifted : (len : ℕ) (bs : List ℕ) → IsText bs → place bs len ≡ place (chars bs) len

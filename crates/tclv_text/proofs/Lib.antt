@@ -10,6 +10,7 @@ pub mod TruthLemmas
 pub mod IndexLemmas
 pub mod GlobLemmas
 pub mod EscapeLemmas
+pub mod CursorLemmas
 pub mod ListLemmas
 pub mod Balanced
 pub mod Tails
@@ -18,4 +19,5 @@ pub mod ListCases
 pub mod ListsLifted
 pub mod QuoteLemmas
 pub mod QuotesLifted
-pub mod CursorLemmas
+pub mod GlobCases
+pub mod IndexCases

@@ -1,17 +1,13 @@
 -- A text with a character that is not ASCII is no number, whichever way it is given.
-use Rattle.std.proofs.Common.{◌≡◌, ℕ, zero, suc, ◌+◌, ◌-◌, ◌*◌, ◌<◌, ◌≤◌, Bool, true, false, cond, List, [], ◌∷◌, ◌++◌, Option, Some, None, Err, length, get_or, take, drop, sym, ap, ◌∙◌, subst, refl, arith, ltb, eqb, ◌&&◌, ◌||◌, reverse}
-use Rattle.std.proofs.lemmas.List.{length-drop, length-take, get_or-drop, get_or-take, get_or-reverse}
-use Rattle.std.proofs.lemmas.List.Sums.{prefix_len_passes}
-use Rattle.std.proofs.lemmas.Bool.{cases_lt, cond-false, ne_eqb, and_left, and_right, false≢true}
+use Rattle.std.proofs.Common.{◌≡◌, ℕ, zero, suc, ◌+◌, ◌*◌, ◌<◌, ◌≤◌, Bool, true, false, cond, List, [], ◌∷◌, Option, Some, None, Err, length, get_or, take, drop, sym, ap, ◌∙◌, subst, refl, arith, ltb, eqb, ◌&&◌, ◌||◌}
+use Rattle.std.proofs.lemmas.Bool.{cases_lt, cond-false, ne_eqb, and_left, and_right}
 use Rattle.std.proofs.lemmas.Bool.Decides.{nat_tests}
-use Rattle.std.proofs.lemmas.Str.{encode_ascii}
 use Rattle.std.specs.Option.{option_or, IfSome}
-use Rattle.std.specs.List.{prefix_len, suffix_len}
+use Rattle.std.specs.List.{prefix_len}
 use Rattle.std.specs.Str.{chars, str_eq_ignore_ascii_case}
 use Rattle.std.specs.Char.{digit_value, is_digit, is_ascii_digit, is_ascii_hexdigit}
 use Rattle.std.specs.Prelude.{codes}
-use lib.Utf8.{encode, encodes}
-use mathlib.Core.Logic.{⊎_elim, inl, inr, ◌⊎◌}
+use mathlib.Core.Logic.{⊎_elim}
 use Rattle.tclv_text.specs.Texts.{IsText}
 use Rattle.tclv_text.specs.Characters.{is_space}
 use Rattle.tclv_text.specs.Numbers.{trim, digits_after, number, radix_of, number_in, based_number, unsigned, without_sign, is_minus, is_exponent, is_fraction_or_exponent, is_decimal_fraction, is_closing, is_closed_digits, is_nan_with_digits, is_named_float, is_float_form, in_range, whole}

@@ -1,15 +1,14 @@
 -- Truth words by the first letter, and texts that are none.
-use Rattle.std.proofs.Common.{◌≡◌, ℕ, zero, suc, ◌+◌, ◌<◌, ◌≤◌, Bool, true, false, cond, List, [], ◌∷◌, Option, Some, None, length, take, sym, ap, ◌∙◌, subst, refl, arith, ltb, eqb, ◌&&◌, ◌||◌}
-use Rattle.std.proofs.lemmas.Bool.{cases_eq, ne_eqb, and_left, and_right, and_parts, and_from}
-use Rattle.std.specs.Prelude.{codes, filter}
+use Rattle.std.proofs.Common.{◌≡◌, ℕ, zero, suc, ◌<◌, Bool, true, false, cond, List, [], ◌∷◌, Option, Some, None, length, take, sym, ap, ◌∙◌, subst, refl, arith, ltb, eqb, ◌&&◌, ◌||◌}
+use Rattle.std.proofs.lemmas.Bool.{cases_eq, ne_eqb, and_right, and_parts, and_from}
+use Rattle.std.specs.Prelude.{codes}
 use Rattle.std.specs.List.{list_all}
 use Rattle.std.specs.Option.{option_or}
 use Rattle.std.specs.Str.{chars, str_eq_ignore_ascii_case}
 use Rattle.std.specs.Char.{to_ascii_lowercase}
 use mathlib.Core.Logic.{⊎_elim}
 use Rattle.tclv_text.specs.Texts.{IsText}
-use Rattle.tclv_text.specs.Numbers.{whole}
-use Rattle.tclv_text.specs.Truths.{truth_words, is_front, only_value, word_truth, number_truth, truth}
+use Rattle.tclv_text.specs.Truths.{only_value, word_truth, number_truth, truth}
 use Rattle.tclv_text.proofs.AsciiLemmas.{HasHigh, lifted, no_word}
 use Rattle.tclv_text.proofs.NumbersLifted.{whole_high}
 
@@ -52,11 +51,11 @@ letters x r1 r2 r3 r4 r5 r6 =
     ])) (λ (n3 : x ≡ 111 → ⊥).
     ⊎_elim (λ (q : x ≡ 102). subst (λ z. Agree (eqb z 116) (eqb z 121) (eqb z 111) (eqb z 102) (eqb z 110) r1 r2 r3 r4 r5 r6) (sym q) (elim r4 as (λ r. Agree false false false true false r1 r2 r3 r r5 r6) [ true ↦ refl | false ↦ refl ])) (λ (n4 : x ≡ 102 → ⊥).
     ⊎_elim (λ (q : x ≡ 110). subst (λ z. Agree (eqb z 116) (eqb z 121) (eqb z 111) (eqb z 102) (eqb z 110) r1 r2 r3 r4 r5 r6) (sym q) (elim r5 as (λ r. Agree false false false false true r1 r2 r3 r4 r r6) [ true ↦ refl | false ↦ refl ])) (λ (n5 : x ≡ 110 → ⊥).
-      subst (λ t. Agree t (eqb x 121) (eqb x 111) (eqb x 102) (eqb x 110) r1 r2 r3 r4 r5 r6) (sym (ne_eqb x 116 n1))
-      (subst (λ y. Agree false y (eqb x 111) (eqb x 102) (eqb x 110) r1 r2 r3 r4 r5 r6) (sym (ne_eqb x 121 n2))
-      (subst (λ o. Agree false false o (eqb x 102) (eqb x 110) r1 r2 r3 r4 r5 r6) (sym (ne_eqb x 111 n3))
-      (subst (λ f. Agree false false false f (eqb x 110) r1 r2 r3 r4 r5 r6) (sym (ne_eqb x 102 n4))
-      (subst (λ n. Agree false false false false n r1 r2 r3 r4 r5 r6) (sym (ne_eqb x 110 n5)) refl)))))
+    subst (λ t. Agree t (eqb x 121) (eqb x 111) (eqb x 102) (eqb x 110) r1 r2 r3 r4 r5 r6) (sym (ne_eqb x 116 n1))
+    (subst (λ y. Agree false y (eqb x 111) (eqb x 102) (eqb x 110) r1 r2 r3 r4 r5 r6) (sym (ne_eqb x 121 n2))
+    (subst (λ o. Agree false false o (eqb x 102) (eqb x 110) r1 r2 r3 r4 r5 r6) (sym (ne_eqb x 111 n3))
+    (subst (λ f. Agree false false false f (eqb x 110) r1 r2 r3 r4 r5 r6) (sym (ne_eqb x 102 n4))
+    (subst (λ n. Agree false false false false n r1 r2 r3 r4 r5 r6) (sym (ne_eqb x 110 n5)) refl)))))
     (cases_eq x 110)) (cases_eq x 102)) (cases_eq x 111)) (cases_eq x 121)) (cases_eq x 116)
 
 abbrev fits : List ℕ → List ℕ → Bool
@@ -64,7 +63,7 @@ fits t w = str_eq_ignore_ascii_case t (take (length t) w)
 
 -- two tests, of the words for true and of those for false, tell the one word
 pub words_agree : (t : List ℕ) → by_words (fits t (codes "true") || (fits t (codes "yes") || fits t (codes "on"))) (fits t (codes "false") || (fits t (codes "no") || fits t (codes "off"))) ≡ word_truth t
-unfolding AgreeAt
+unfolding AgreeAt word_truth
 words_agree [] = refl
 words_agree (c ∷ cs) = letters (to_ascii_lowercase c) _ _ _ _ _ _
 
@@ -77,6 +76,7 @@ no_front : (t w : List ℕ) → list_all (λ y. ltb y 128) w ≡ true → HasHig
 no_front t w l h = no_word t (take (length t) w) (low_take (length t) w l) h
 
 word_high : (t : List ℕ) → HasHigh t → word_truth t ≡ None
+unfolding word_truth
 word_high t h =
     rw (no_front t (codes "true") refl h, no_front t (codes "yes") refl h, no_front t (codes "on") refl h, no_front t (codes "false") refl h, no_front t (codes "no") refl h, no_front t (codes "off") refl h) refl
 

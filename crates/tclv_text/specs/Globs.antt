@@ -23,8 +23,8 @@ abbrev pub is_escaped : ℕ → List ℕ → Bool
 is_escaped c [] = false
 is_escaped c (x ∷ p) = c == x
 
--- The character c is fitted by the part of a pattern that begins with the mark and goes on in p: by `?` any; by `[` a member of the set up to
--- the next `]`, or to the end; by a backslash the character behind it; by any other mark the mark itself.
+-- The part of a pattern that begins with the mark and goes on in p fits the character c: `?` fits any; `[` a member of the set up to the
+-- next `]`, or to the end; a backslash the character behind it; another mark itself.
 abbrev pub fits_one : ℕ → List ℕ → ℕ → Bool
 fits_one mark p c =
     if mark == 63 then true else (if mark == 91 then is_member c (take_while is_open p) else (if mark == 92 then is_escaped c p else c == mark))
@@ -47,8 +47,8 @@ abbrev pub is_empty : List ℕ → Bool
 is_empty [] = true
 is_empty (c ∷ t) = false
 
--- The pattern behind its first n characters fits the text: none the empty text; `*` and a pattern what ends with a text of the pattern;
--- another part and a pattern a character of the part before a text of the pattern.
+-- The pattern behind its first n characters fits the text. No pattern fits the empty text; `*` before a pattern fits a text that ends with
+-- one that the pattern fits; another part before a pattern fits one character before a text that the pattern fits.
 abbrev pub fits_behind : ℕ → List ℕ → List ℕ → Bool
 fits_behind n [] t = is_empty t
 fits_behind (suc n) (mark ∷ p) t = fits_behind n p t

@@ -1,5 +1,5 @@
 -- What a text is as a place in a list or a text of a given length.
-use Rattle.std.specs.Prelude.{ℕ, ◌+◌, Bool, not, ◌||◌, ◌==◌, if◌then◌else◌, List, [], ◌∷◌, ◌++◌, drop, Option, Some, None, Result, Ok, Err, ℤ, pos, ◌+ℤ◌, ◌-ℤ◌, codes}
+use Rattle.std.specs.Prelude.{◌≡◌, ◌⊎◌, ℕ, ◌+◌, Bool, not, ◌||◌, ◌==◌, if◌then◌else◌, List, [], ◌∷◌, ◌++◌, drop, Option, Some, None, Result, ℤ, pos, ◌+ℤ◌, ◌-ℤ◌, codes}
 use Rattle.std.specs.Option.{option_or, ok_or}
 use Rattle.std.specs.Result.{result_ok}
 use Rattle.std.specs.List.{prefix_len}
@@ -25,8 +25,12 @@ cut len front [] = None
 cut len front (c ∷ rest) = option_or (moved (base len front) c (result_ok (whole rest))) (cut len (front ++ c ∷ []) rest)
 
 -- The place that the text is, where the length is len: `N`, `end`, `N+M`, `N-M`, `end+M` or `end-M`, with whole numbers N and M.
-abbrev pub place : List ℕ → ℕ → Option ℤ
+unfoldable pub place : List ℕ → ℕ → Option ℤ
 place t len = option_or (base len t) (cut len [] t)
+
+-- The same by cases on the whole text: it is a place, or a place, a sign and a whole number.
+abbrev pub IsPlace : List ℕ → ℕ → ℤ → Type 0
+IsPlace t len z = (base len t ≡ Some z) ⊎ ((u : List ℕ) × (sign : ℕ) × (v : List ℕ) × (t ≡ u ++ sign ∷ v) × (moved (base len u) sign (result_ok (whole v)) ≡ Some z))
 
 abbrev pub index : List ℕ → ℕ → Result ℤ IndexFault
 index t len = ok_or (place t len) BadIndex

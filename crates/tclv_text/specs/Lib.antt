@@ -8,8 +8,8 @@ pub mod Indices
 pub mod Globs
 pub mod GlobSearch
 pub mod Escapes
+pub mod Cursors
 pub mod Lists
 pub mod Elements
 pub mod Spans
 pub mod Quotes
-pub mod Cursors

@@ -24,7 +24,7 @@ only_value (w ∷ []) = Some w.1
 only_value (v ∷ w ∷ ws) = None
 
 -- a word, or a front that is one of no other word, in any case
-abbrev pub word_truth : List ℕ → Option Bool
+unfoldable pub word_truth : List ℕ → Option Bool
 word_truth t = only_value (filter (is_front t) truth_words)
 
 -- a whole number is true unless it is 0

@@ -247,73 +247,38 @@ mod tests {
     use super::*;
     use std::test::Fail;
 
+    // each row is a pattern, `=` and a text
     #[test]
-    fn matches_patterns(rt: HostRuntime) {
-        let fits = [
-            ("", ""),
-            ("*", ""),
-            ("**", "ab"),
-            ("a*c", "abbc"),
-            ("*a*b", "xaybzb"),
-            ("*ab", "aaab"),
-            ("?", "\u{e9}"),
-            ("?*?", "ab"),
-            ("[abc]", "c"),
-            ("[a-c]", "c"),
-            ("[c-a]x", "bx"),
-            ("[a-c-e]", "-"),
-            ("[a-c-e]", "e"),
-            ("[-a]", "-"),
-            ("[a-]", "-"),
-            ("[a-", "-"),
-            ("[abc", "b"),
-            ("[a*]b", "*b"),
-            ("[\\]", "\\"),
-            ("[\u{e0}-\u{ef}]", "\u{e9}"),
-            ("\\*", "*"),
-            ("\\a\\\\", "a\\"),
-            ("]", "]"),
-        ];
-        for (pattern, text) in fits {
-            assert!(rt; glob_match(pattern.as_bytes(), text.as_bytes(), false), "{pattern} at {text}");
+    fn matches_patterns(rt: HostRuntime) -> Result<(), Fail> {
+        let fits =
+            "=|*=|**=ab|a*c=abbc|*a*b=xaybzb|*ab=aaab|?=\u{e9}|?*?=ab|[abc]=c|[a-c]=c|[c-a]x=bx|[a-c-e]=-|\
+                    [a-c-e]=e|[-a]=-|[a-]=-|[a-=-|[abc=b|[a*]b=*b|[\\]=\\|[\u{e0}-\u{ef}]=\u{e9}|\\*=*|\\a\\\\=a\\|]=]";
+        for row in fits.split('|') {
+            let (pattern, text) = row.split_once('=').ok_or("no row")?;
+            assert!(rt;
+                glob_match(pattern.as_bytes(), text.as_bytes(), false),
+                "{row}"
+            );
         }
-        let fails = [
-            ("", "a"),
-            ("?", ""),
-            ("?", "ab"),
-            ("a*c", "abcd"),
-            ("*a*b", "xbya"),
-            ("[a-c]", "d"),
-            ("[a-]", "b"),
-            ("[a-c-e]", "d"),
-            ("[]", ""),
-            ("[]", "]"),
-            ("[]a]", "a"),
-            ("[", "["),
-            ("[ab", "abc"),
-            ("\\*", "a"),
-            ("a\\", "a\\"),
-            ("a\\", "a"),
-            ("A", "a"),
-        ];
-        for (pattern, text) in fails {
-            assert!(rt; !glob_match(pattern.as_bytes(), text.as_bytes(), false), "{pattern} at {text}");
+        let fails =
+            "=a|?=|?=ab|a*c=abcd|*a*b=xbya|[a-c]=d|[a-]=b|[a-c-e]=d|[]=|[]=]|[]a]=a|[=[|[ab=abc|\\*=a|a\\=a\\|\
+                     a\\=a|A=a";
+        for row in fails.split('|') {
+            let (pattern, text) = row.split_once('=').ok_or("no row")?;
+            assert!(rt;
+                !glob_match(pattern.as_bytes(), text.as_bytes(), false),
+                "{row}"
+            );
         }
+        Ok(())
     }
 
     #[test]
     fn matches_in_any_case(rt: HostRuntime) {
-        let rows = [
-            ("A*c", "aBC", true),
-            ("[A-C]", "b", true),
-            ("\\X", "x", true),
-            ("[^-`]", "a", false),
-            ("\u{c9}", "\u{e9}", false),
-        ];
-        for (pattern, text, want) in rows {
-            let got = glob_match(pattern.as_bytes(), text.as_bytes(), true);
-            assert_eq!(rt; got, want, "{pattern} at {text}");
-        }
+        assert!(rt; glob_match(b"A*c", b"aBC", true));
+        assert!(rt; glob_match(b"[A-C]\\X", b"bx", true));
+        assert!(rt; !glob_match(b"[^-`]", b"a", true));
+        assert!(rt; !glob_match("\u{c9}".as_bytes(), "\u{e9}".as_bytes(), true));
     }
 
     #[test]

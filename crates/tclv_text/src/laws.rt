@@ -2,5 +2,7 @@
 //! a function that does nothing.
 
 pub mod escapes;
+pub mod globs;
+pub mod indices;
 pub mod lists;
 pub mod numbers;

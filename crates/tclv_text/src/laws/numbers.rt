@@ -7,5 +7,4 @@ ghost use Rattle.tclv_text.specs.Numbers.{whole, whole_text};
 /// The decimal text of a number of 64 bits reads as that number.
 pub fn decimal_text_reads_back()
     ensures { (z : ℤ) → FitsSigned w64 z → whole (whole_text z) ≡ Ok z }
-{
-}
+{}

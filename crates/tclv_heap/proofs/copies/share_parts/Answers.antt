@@ -1,4 +1,4 @@
-use Rattle.std.proofs.Common.{◌≡◌, ◌+◌, ◌++◌, ◌∷◌, [], arith, ap, sym, ◌∙◌, refl, subst, take, Some}
+use Rattle.std.proofs.Common.{◌≡◌, ◌+◌, ◌++◌, ◌∷◌, [], arith, ap, sym, ◌∙◌, refl, subst, take}
 use Rattle.std.proofs.lemmas.List.{take_more}
 use Rattle.tclv_heap.specs.Graph.{Shared, form_parts}
 use Rattle.tclv_heap.proofs.GraphLemmas.{Updates_set}

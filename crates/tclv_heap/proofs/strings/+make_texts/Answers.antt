@@ -1,8 +1,8 @@
-use Rattle.std.proofs.Common.{◌≡◌, ◌<◌, ◌≤◌, ◌+◌, ◌++◌, ◌∷◌, [], ℕ, length, take, get_or, Option, Some, None, IsSome, is_some, false, refl, sym, ap, ◌∙◌, arith, subst}
+use Rattle.std.proofs.Common.{◌≡◌, ◌<◌, ◌≤◌, ◌+◌, ◌++◌, ◌∷◌, [], length, take, get_or, Option, Some, None, IsSome, is_some, false, refl, sym, ap, ◌∙◌, arith, subst}
 use Rattle.std.proofs.lemmas.List.{take_more, take_all}
-use Rattle.tclv_heap.specs.Graph.{at, occurs, form_in, text_in, form_parts, Leads}
+use Rattle.tclv_heap.specs.Graph.{at, occurs, form_in, text_in, form_parts}
 use Rattle.tclv_heap.specs.Graph.Leads.{here}
-use Rattle.tclv_heap.proofs.RetextLemmas.{Noted_same, Noted_then, retexted_there, retexted_form, retexted_text, retexted_lower, retexted_tells, retexted_leads, kid_occurs, kid_leads, kid_told, made_more}
+use Rattle.tclv_heap.proofs.RetextLemmas.{Noted_then, retexted_there, retexted_form, retexted_text, retexted_lower, retexted_tells, retexted_leads, kid_occurs, kid_leads, kid_told, made_more}
 use Rattle.tclv_heap.proofs.strings.+make_texts.Goals as goal
 
 none_from : {X : Type 0} (o : Option X) → is_some o ≡ false → o ≡ None
@@ -56,15 +56,15 @@ pub spell_text-requires-clause-tells : goal.spell_text-requires-clause-tells
 spell_text-requires-clause-tells g t c = retexted_tells g.T.Types.table _ _ _ c.loop-kid.invariant.2.retexts c.args.id (c.requires.told c.args.id here)
 
 pub spell_text-requires-clause-kids : goal.spell_text-requires-clause-kids
-spell_text-requires-clause-kids g t c n f p is none form i =
-    let parts = g.T.Types.table.parts in
+spell_text-requires-clause-kids g t c p i =
+    let tb = g.T.Types.table in
+    let parts = tb.parts in
     let old = c.args.objects.now.slots in
-    let now = c.loop-kid.objects.slots in
-    let same_form : form_in (at now c.args.id) ≡ form_in (at old c.args.id) = retexted_form g.T.Types.table _ old now c.loop-kid.invariant.2.retexts c.args.id in
+    let same_form : form_in (at c.loop-kid.objects.slots c.args.id) ≡ form_in (at old c.args.id) = retexted_form tb _ _ _ c.loop-kid.invariant.2.retexts c.args.id in
     let ps = form_parts parts (form_in (at old c.args.id)) in
-    let is_ps : parts f ≡ ps = ap (form_parts parts) (sym (ap form_in is ∙ form) ∙ same_form) in
     let past : length ps ≤ c.loop-kid.k = omega (arith, c.in_default.ensures.none, ap (λ x. length (form_parts parts x)) same_form) in
-    c.loop-kid.invariant.3 p (subst (λ xs. 0 < occurs p xs) (is_ps ∙ sym (take_all c.loop-kid.k ps past)) i)
+    let i_ps : 0 < occurs p ps = omega (arith, i, ap (λ x. occurs p (form_parts parts x)) same_form) in
+    c.loop-kid.invariant.3 p (subst (λ xs. 0 < occurs p xs) (sym (take_all c.loop-kid.k ps past)) i_ps)
 
 pub returns-clause-noted : goal.returns-clause-noted
 returns-clause-noted g t c =

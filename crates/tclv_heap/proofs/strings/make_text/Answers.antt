@@ -1,6 +1,5 @@
-use Rattle.std.proofs.Common.{◌≡◌, ℕ, List, [], Some, IsSome, refl, sym, ap, ◌∙◌, subst}
-use Rattle.tclv_heap.specs.Graph.{Graph, at, text_in, Leads}
-use Rattle.tclv_heap.specs.Stands.{IsSound, Retexted}
+use Rattle.std.proofs.Common.{◌≡◌, [], refl}
+use Rattle.tclv_heap.specs.Graph.{Leads}
 use Rattle.tclv_heap.specs.Noted.{Noted}
 use Rattle.tclv_heap.proofs.RetextLemmas.{noted_there, Untexted_back, Retexted_same, Retexted_wider, text_says}
 use Rattle.tclv_heap.proofs.strings.make_text.Given.{Over}

@@ -1,15 +1,14 @@
-use Rattle.std.proofs.Common.{◌≡◌, ◌<◌, ℕ, [], map, set, Option, Some, None, IsSome, is_some, false, refl, sym, ap, ◌∙◌}
+use Rattle.std.proofs.Common.{◌≡◌, ◌<◌, ℕ, [], map, set, Option, Some, None, IsSome, is_some, false, refl, sym, ap, ◌∙◌, arith}
 use Rattle.std.specs.Prelude.{unwrap_or}
-use Rattle.std.specs.Str.{chars}
 use Rattle.std.proofs.lemmas.List.{length-set}
 use Rattle.tclv_text.specs.Texts.{IsText}
 use Rattle.tclv_heap.specs.declared.ids.Object.{Object}
-use Rattle.tclv_heap.specs.Graph.{at, text_in, occurs, Updates, Leads}
+use Rattle.tclv_heap.specs.Graph.{at, text_in, form_in, form_parts, occurs, Updates, Leads}
 use Rattle.tclv_heap.specs.Graph.Leads.{here}
 use Rattle.tclv_heap.specs.Stands.{IsSound, SaysSame, stands}
 use Rattle.tclv_heap.specs.Noted.{Noted}
 use Rattle.tclv_heap.proofs.HeapLemmas.{Makes}
-use Rattle.tclv_heap.proofs.RetextLemmas.{Noted_same, Noted_one, retexted_there}
+use Rattle.tclv_heap.proofs.RetextLemmas.{Noted_one, retexted_there}
 use Rattle.tclv_heap.proofs.TextLemmas.{occurs_at, appended_text}
 use Rattle.tclv_heap.proofs.strings.spell_text.Given.{Over}
 use Rattle.tclv_heap.proofs.strings.spell_text.Goals as goal
@@ -32,7 +31,9 @@ none g c = none_from c.index-object.result.now.text (sym c.is_some.ensures ∙ c
 kids_made : (g : Over) (c : In-Some g) → (p : ℕ) → 0 < occurs p (g.T.Types.table.parts c.in-Some.form) → IsSome (text_in (at c.args.objects.now.slots p))
 kids_made g c p i =
     let a = (goal.at.In-Some g c).After-new-text in
-    c.requires.kids c.index-object.result.now c.in-Some.form p (object_is g a) (none g a) c.in-Some.is i
+    let parts = g.T.Types.table.parts in
+    let same_parts : form_parts parts (form_in (at c.args.objects.now.slots c.args.id)) ≡ parts c.in-Some.form = ap (form_parts parts) (ap form_in (object_is g a) ∙ c.in-Some.is) in
+    c.requires.kids p (omega (arith, i, ap (occurs p) same_parts))
 
 pub spell-requires-clause-kids : goal.spell-requires-clause-kids
 spell-requires-clause-kids g c k within = kids_made g (goal.at.spell-requires-clause-kids g c).In-Some _ (occurs_at _ k within)

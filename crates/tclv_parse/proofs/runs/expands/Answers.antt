@@ -1,4 +1,4 @@
-use Rattle.std.proofs.Common.{◌≡◌, true, false, not, ◌&&◌, ap, ap₂, sym, ◌∙◌, Bool}
+use Rattle.std.proofs.Common.{◌≡◌, true, false, not, ◌&&◌, ap, sym, ◌∙◌}
 use Rattle.tclv_text.specs.Cursors.{sign}
 use Rattle.tclv_parse.specs.Runs.{is_expansion_mark, ends_word, expands}
 use Rattle.tclv_parse.proofs.RunLaws.{expands-is, mark-is}

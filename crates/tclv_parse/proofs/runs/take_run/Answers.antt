@@ -1,5 +1,4 @@
-use Rattle.std.proofs.Common.{◌≡◌, suc, ◌≤◌, ◌+◌, drop, take, length, Some, None, ap, sym, ◌∙◌, arith}
-use Rattle.std.specs.Str.{chars}
+use Rattle.std.proofs.Common.{◌≡◌, suc, drop, take, Some, None, ap, sym, ◌∙◌}
 use Rattle.tclv_text.specs.Cursors.{sign}
 use Rattle.tclv_parse.specs.Runs.{step, run_len}
 use Rattle.tclv_parse.proofs.RunLaws.{passes-none, passes-one, passes-all, run-shorter, later, none-of}

@@ -1,4 +1,4 @@
-use Rattle.std.proofs.Common.{◌≡◌, ℕ, length}
+use Rattle.std.proofs.Common.{ℕ, length}
 use Rattle.tclv_parse.proofs.RunLaws.{Passes}
 use Rattle.tclv_parse.proofs.runs.take_run.Given as goal
 

@@ -10,7 +10,7 @@ invariant-loop-fits l = record {
   text : IsText l.rest;
   within : length l.rest ≤ length l.set;
   has : (l.has || is_member l.c (take_while is_open (points l.nocase l.rest))) ≡ is_member l.c (take_while is_open (points l.nocase l.set));
-  behind : behind_set (points l.nocase l.rest) ≡ behind_set (points l.nocase l.set)
+  behind : behind_set (points l.nocase l.rest) ≡ behind_set (points l.nocase l.set);
 }
 
 abbrev pub decreases-loop-fits : goal.decreases-loop-fits

@@ -8,7 +8,7 @@ abbrev pub invariant-loop-behind : goal.invariant-loop-behind
 invariant-loop-behind l = record {
   pattern_text : IsText l.pattern_left;
   text_text : IsText l.text_left;
-  same : somewhere (fits (points l.nocase l.pattern_left)) (points l.nocase l.text_left) ≡ somewhere (fits (points l.nocase l.pattern)) (points l.nocase l.text)
+  same : somewhere (fits (points l.nocase l.pattern_left)) (points l.nocase l.text_left) ≡ somewhere (fits (points l.nocase l.pattern)) (points l.nocase l.text);
 }
 
 abbrev pub decreases-loop-behind : goal.decreases-loop-behind

@@ -1,7 +1,7 @@
-use Rattle.std.proofs.Common.{◌≡◌, ap, sym, ◌∙◌, arith, length}
+use Rattle.std.proofs.Common.{ap, sym, ◌∙◌, arith, length}
 use Rattle.std.proofs.lemmas.Bool.{eqb-true, eqb-false}
 use Rattle.tclv_text.specs.Globs.{is_empty}
-use Rattle.tclv_text.specs.GlobSearch.{points, Passes}
+use Rattle.tclv_text.specs.GlobSearch.{points}
 use Rattle.tclv_text.proofs.GlobLemmas.{passes_more, passes_end, no_points, some_points}
 use Rattle.tclv_text.proofs.globs.front.Goals as goal
 

@@ -1,4 +1,4 @@
-use Rattle.std.proofs.Common.{◌≡◌, ap, sym, ◌∙◌, ◌||◌}
+use Rattle.std.proofs.Common.{ap, ◌∙◌}
 use Rattle.std.specs.List.{take_while}
 use Rattle.tclv_text.specs.Globs.{is_member, is_open}
 use Rattle.tclv_text.specs.GlobSearch.{points, behind_set}

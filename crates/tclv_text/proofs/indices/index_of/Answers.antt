@@ -1,4 +1,4 @@
-use Rattle.std.proofs.Common.{◌≡◌, ap, ◌∙◌}
+use Rattle.std.proofs.Common.{ap, ◌∙◌}
 use Rattle.std.specs.Option.{ok_or}
 use Rattle.tclv_text.specs.declared.indices.IndexFault.TheVariants.{BadIndex}
 use Rattle.tclv_text.proofs.IndexLemmas.{place_lifted}

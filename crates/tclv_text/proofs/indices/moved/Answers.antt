@@ -1,4 +1,4 @@
-use Rattle.std.proofs.Common.{◌≡◌, ℕ, ◌+◌, ◌-◌, ◌<◌, ◌≤◌, sym, ap, ◌∙◌, arith, Some, None, List, length, drop, take, get_or, ◌+ℤ◌, ◌-ℤ◌, eqb, refl}
+use Rattle.std.proofs.Common.{◌≡◌, ℕ, ◌+◌, ◌-◌, sym, ap, ◌∙◌, arith, Some, None, List, length, drop, take, get_or, ◌+ℤ◌, ◌-ℤ◌, refl}
 use Rattle.std.proofs.lemmas.Bool.{cond-true, cond-false, eq-eqb, ne_eqb}
 use Rattle.std.specs.Result.{result_ok}
 use Rattle.tclv_text.specs.Numbers.{whole}

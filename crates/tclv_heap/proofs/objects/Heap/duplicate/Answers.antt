@@ -1,6 +1,5 @@
-use Rattle.std.proofs.Common.{◌≡◌, Some, None, refl, sym, ap, ◌∙◌, subst}
-use Rattle.tclv_heap.specs.declared.ids.Object.{Object}
-use Rattle.tclv_heap.specs.Graph.{at, Shared, form_parts, new_object}
+use Rattle.std.proofs.Common.{◌≡◌, Some, refl, ap, ◌∙◌, subst}
+use Rattle.tclv_heap.specs.Graph.{Shared, form_parts, new_object}
 use Rattle.tclv_heap.specs.Stands.{Keeps}
 use Rattle.tclv_heap.proofs.CopyLemmas.{copied_there, Valid_duplicate, Duplicated}
 use Rattle.tclv_heap.proofs.HoldersLemmas.{Holders_duplicate, Closed_duplicate}

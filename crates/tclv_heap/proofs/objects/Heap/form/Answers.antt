@@ -1,4 +1,4 @@
-use Rattle.std.proofs.Common.{◌≡◌, Option, Some, None, Bor, sym, ◌∙◌}
+use Rattle.std.proofs.Common.{◌≡◌, Option, Some, None, Bor, sym}
 use Rattle.std.specs.Prelude.{IfSome, option_copied}
 use Rattle.tclv_heap.proofs.CopyLemmas.{HasForm_from}
 use Rattle.tclv_heap.proofs.objects.Heap.form.Goals as goal

@@ -1,5 +1,5 @@
-use Rattle.std.proofs.Common.{◌≡◌, None, IsSome, Some, is_some, refl, ap, ◌∙◌}
-use Rattle.tclv_heap.specs.Graph.{Updates, Adds, new_object}
+use Rattle.std.proofs.Common.{Some, is_some, refl, ap, ◌∙◌}
+use Rattle.tclv_heap.specs.Graph.{Updates, new_object}
 use Rattle.tclv_heap.specs.Stands.{Keeps}
 use Rattle.tclv_heap.proofs.HeapLemmas.{Valid_insert, Inserted}
 use Rattle.tclv_heap.proofs.HoldersLemmas.{Holders_insert, Closed_updates}

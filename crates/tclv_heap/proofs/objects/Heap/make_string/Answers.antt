@@ -1,4 +1,3 @@
-use Rattle.tclv_heap.specs.Stands.{Keeps}
 use Rattle.tclv_heap.proofs.RetextLemmas.{Closed_retexted}
 use Rattle.tclv_heap.proofs.HoldersLemmas.{Holders_retexted}
 use Rattle.tclv_heap.proofs.objects.Heap.make_string.Goals as goal

@@ -1,7 +1,6 @@
-use Rattle.std.proofs.Common.{◌≡◌, ◌≢◌, ◌+◌, min, ℕ, List, arith, refl, set, Some, ◌∷◌, ap}
+use Rattle.std.proofs.Common.{◌≡◌, ◌≢◌, ◌+◌, min, arith, refl, set, Some}
 use Rattle.tclv_heap.specs.declared.ids.Object.{Object}
-use Rattle.tclv_heap.specs.Graph.{stuck, Updates}
-use Rattle.tclv_heap.specs.Holders.{Holders}
+use Rattle.tclv_heap.specs.Graph.{stuck}
 use Rattle.tclv_heap.specs.Stands.{Keeps}
 use Rattle.tclv_heap.proofs.GraphLemmas.{Updates_set}
 use Rattle.tclv_heap.proofs.HeapLemmas.{Valid_recount}

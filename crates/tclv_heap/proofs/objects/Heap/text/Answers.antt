@@ -1,4 +1,4 @@
-use Rattle.std.proofs.Common.{◌≡◌, Some, sym, ap, ◌∙◌}
+use Rattle.std.proofs.Common.{Some, sym, ap, ◌∙◌}
 use Rattle.tclv_heap.specs.Graph.{text_in}
 use Rattle.tclv_heap.proofs.StandsLemmas.{stands_text}
 use Rattle.tclv_heap.proofs.objects.Heap.text.Goals as goal

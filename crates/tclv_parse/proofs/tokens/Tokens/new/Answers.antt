@@ -1,6 +1,6 @@
 use Rattle.std.proofs.Common.{ap, sym, subst, false}
 use Rattle.std.specs.Str.{chars}
-use Rattle.tclv_parse.specs.Grammar.{pieces, course, script, deeper_by}
+use Rattle.tclv_parse.specs.Grammar.{course, script, deeper_by}
 use Rattle.tclv_parse.specs.Places.{seen_course, behind}
 use Rattle.tclv_parse.specs.Gives.{TilesText}
 use Rattle.tclv_parse.specs.Steps.{all_behind, left_of}

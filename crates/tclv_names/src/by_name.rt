@@ -1,0 +1,82 @@
+// A table by name.
+
+use indexmap::IndexMap;
+use std::alloc::Global;
+use std::marker::Model;
+use tclv_text::NoMemory;
+
+/// A table by name, where a name is any bytes. A slice finds a name, and that takes no memory.
+#[derive(Drop)]
+pub struct Names<X> {
+    table: IndexMap<Vec<u8>, X>,
+}
+
+impl<X> Model for Names<X> {
+    ghost use Rattle.std.specs.Coded.{coded_ℕ, coded_list};
+    ghost use Rattle.std.specs.FinMap.{code};
+    ghost use Rattle.tclv_names.specs.Keyed.{Named, keyed};
+
+    ghost Value = { Named X };
+
+    ghost coded = { code (coded_list coded_ℕ) X.code };
+
+    ghost view = { λ a. keyed (λ k. k.items) a.table.entries };
+}
+
+impl<X: Copy> Names<X> {
+    ghost use Rattle.std.specs.Prelude.{◌≡◌, ◌<◌, Some, OnOk, OnErr, IfOk, IfSome, IfNone};
+    ghost use Rattle.std.specs.FinMap as map;
+
+    /// A table without names.
+    pub fn new(alloc: Global) -> Self
+        ensures empty { result ≡ map.empty }
+    {
+        Names {
+            table: IndexMap::new(alloc),
+        }
+    }
+
+    /// What the name has, `None` exactly where it isn't there.
+    pub fn get(&self, name: &[u8]) -> Option<X>
+        ensures value { result ≡ map.get self.now name.now }
+    {
+        match self.table.get(name) {
+            Some(x) => Some(*x),
+            None => None,
+        }
+    }
+
+    /// Gives the name `x`, in place of what it had. After `NoMemory` the table is as before.
+    pub fn put(&mut self, alloc: Global, name: &[u8], x: X) -> Result<(), NoMemory>
+        ensures put { OnOk result (self.new ≡ map.insert self.old name.now x) }
+        ensures refused { OnErr result (self.new ≡ self.old) }
+    {
+        let Ok(key) = Vec::from_slice(alloc, name) else {
+            return Err(NoMemory);
+        };
+        let Ok(_) = self.table.insert(key, x) else {
+            return Err(NoMemory);
+        };
+        Ok(())
+    }
+
+    /// Takes the name out. Where it isn't there nothing changes.
+    pub fn take_out(&mut self, name: &[u8])
+        ensures { self.new ≡ map.remove self.old name.now }
+    {
+        self.table.swap_remove(name);
+    }
+
+    /// Takes some entry out, `None` exactly where there is none.
+    pub fn pop(&mut self) -> Option<(Vec<u8>, X)>
+        ensures entry { IfSome result (λ p. Some p.1 ≡ map.get self.old p.0.items) }
+        ensures rest { IfSome result (λ p. self.new ≡ map.remove self.old p.0.items) }
+        ensures fewer { IfSome result (λ p. map.len self.new < map.len self.old) }
+        ensures empty { IfNone result (self.old ≡ map.empty) }
+    {
+        let Some((name, x)) = self.table.pop() else {
+            return None;
+        };
+        Some((name, x))
+    }
+}
