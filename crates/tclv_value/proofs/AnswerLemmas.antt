@@ -1,6 +1,6 @@
 -- From what a call answers to what is said of it.
-use Rattle.std.proofs.Common.{◌≡◌, ℕ, List, Option, Some, None, is_some, true, false, Result, Ok, Err, refl, sym, ap, ◌∙◌, Bor}
-use Rattle.std.specs.Prelude.{IfSome, IfNone, OnOk, OnErr, IsTrue}
+use Rattle.std.proofs.Common.{◌≡◌, ℕ, List, Option, Some, None, is_some, Result, Ok, Err, sym, ap, ◌∙◌, Bor}
+use Rattle.std.specs.Prelude.{IfSome, IfNone, OnOk, OnErr}
 use Rattle.std.specs.Str.{chars}
 use Rattle.tclv_text.specs.Texts.{IsText}
 use Rattle.tclv_heap.specs.Graph.{Graph, at, text_in}

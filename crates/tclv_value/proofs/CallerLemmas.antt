@@ -1,5 +1,5 @@
 -- What a caller knows of two variables by the store's contracts alone.
-use Rattle.std.proofs.Common.{◌≡◌, ◌≢◌, ◌-◌, ℕ, List, [], ◌∷◌, ◌++◌, length, get_or, cond, Option, Some, None, IsSome, refl, sym, ap, ◌∙◌, arith, nat_eq, true}
+use Rattle.std.proofs.Common.{◌≡◌, ◌≢◌, ◌-◌, ℕ, List, [], ◌∷◌, ◌++◌, length, get_or, cond, Option, Some, None, IsSome, is_some, refl, sym, ap, ◌∙◌, arith, nat_eq, true}
 use Rattle.std.specs.Option.{unwrap_or}
 use Rattle.std.specs.Ordering.{nat_cmp}
 use Rattle.std.specs.Cmp.{nat_cmp_total, unsigned_ties}
@@ -35,3 +35,7 @@ module _ (v0 v1 v2 v3 v4 : View) (from to : ℕ) (text : List ℕ) (apart : from
 
   pub written : v3.stack ≡ v2.stack ++ text ∷ [] → v4.cells ≡ insert v3.cells from (text_at v3 (Stack (length v3.stack - 1))) → get v4.cells from ≡ Some text
   written pushed last = ap (λ m. get m from) last ∙ get_put v3.cells from (text_at v3 (Stack (length v3.stack - 1))) ∙ ap Some (top_text v2.stack v3.stack text pushed)
+
+-- a variable that was written is there
+pub put_there : (old new : FinMap nat_cmp (List ℕ)) (k : ℕ) (x : List ℕ) → new ≡ insert old k x → IsSome (get new k)
+put_there old new k x put = ap (λ m. is_some (get m k)) put ∙ ap is_some (get_put old k x)

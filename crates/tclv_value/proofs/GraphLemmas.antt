@@ -1,20 +1,19 @@
 -- What the calls of the heap keep of the objects' texts, and the places after them.
-use Rattle.std.proofs.Common.{◌≡◌, ◌≢◌, ℕ, ◌<◌, ◌+◌, inl, inr, List, [], ◌∷◌, ◌++◌, Bool, true, false, Option, Some, None, IsSome, is_some, refl, sym, ap, ◌∙◌, arith, subst, min, true≢false, length, get_or, set, cond, eqb, nat_eq}
-use Rattle.std.specs.Prelude.{IsTrue}
+use Rattle.std.proofs.Common.{◌≡◌, ℕ, ◌<◌, ◌+◌, inl, inr, List, [], ◌∷◌, ◌++◌, false, Option, Some, None, IsSome, is_some, refl, sym, ap, ◌∙◌, arith, min, true≢false, length, get_or, set, cond, eqb, nat_eq}
 use Rattle.std.specs.Map.{values_of, lookup}
 use Rattle.indexmap.specs.IndexMap.{insert_entry, swap_remove_entry}
 use Rattle.std.proofs.lemmas.List.Sums.{sum_by-set}
 use Rattle.std.proofs.lemmas.Bool.{cases_eq}
 use Rattle.tclv_heap.specs.declared.ids.Object.{Object}
-use Rattle.tclv_heap.specs.Graph.{Graph, at, occurs, same, stuck, text_in, form_in, Updates, Adds, HasOutside}
+use Rattle.tclv_heap.specs.Graph.{at, occurs, same, stuck, text_in, Updates, Adds, HasOutside}
 use Rattle.tclv_heap.specs.Dying.{Releases}
-use Rattle.tclv_heap.specs.Holders.{Holders, Passes}
-use Rattle.tclv_heap.specs.Stands.{Keeps, SaysSame, Retexted, stands}
+use Rattle.tclv_heap.specs.Holders.{Passes}
+use Rattle.tclv_heap.specs.Stands.{Keeps, Retexted}
 use Rattle.tclv_value.specs.Forms.{form_table}
-use Rattle.tclv_value.specs.Places.{text_of, made_of, places, IsPlaced, TextsStay}
+use Rattle.tclv_value.specs.Places.{made_of, places, IsPlaced, TextsStay}
 use Rattle.tclv_value.specs.declared.forms.Form.{Form}
 use Rattle.tclv_value.proofs.HolderLemmas.{occurs-append, occurs-cons, occurs_insert, occurs_swap_remove, listed, Holders_same, Holders_outside}
-use Rattle.tclv_value.proofs.ViewLemmas.{G, Still, Shift}
+use Rattle.tclv_value.proofs.ViewLemmas.{G, Still}
 
 pub by_slot : (P : Type 0) (s : Option (Object Form)) → (s ≡ None → P) → ((n : Object Form) → s ≡ Some n → P) → P
 by_slot P None none some = none refl
@@ -113,8 +112,7 @@ retexted_there Among old new r o there =
 -- a place of the stack gets an object, and its old object is released
 pub over_splits : (ids : List ℕ) (es : List (ℕ × ℕ)) (i o old x : ℕ) → i < length ids → get_or ids i 0 ≡ old → occurs x (places (ids ++ o ∷ []) es) ≡ occurs x (old ∷ places (set ids i o) es)
 over_splits ids es i o old x within here =
-    omega
-    (
+    omega (
       arith,
       occurs-append x (ids ++ o ∷ []) (values_of es),
       occurs-append x ids (o ∷ []),
@@ -129,8 +127,7 @@ over_splits ids es i o old x within here =
 module _ (g : G) (ids : List ℕ) (es es2 : List (ℕ × ℕ)) (o c : ℕ) (entries : es2 ≡ insert_entry nat_eq es c o) where
   pub put_splits : (old : Option ℕ) → lookup (nat_eq c) es ≡ old → (x : ℕ) → occurs x (places (ids ++ o ∷ []) es) ≡ occurs x (listed old ++ places ids es2)
   put_splits old is x =
-      omega
-      (
+      omega (
         arith,
         occurs-append x (ids ++ o ∷ []) (values_of es),
         occurs-append x ids (o ∷ []),
@@ -156,8 +153,7 @@ module _ (g : G) (ids : List ℕ) (es es2 : List (ℕ × ℕ)) (o c : ℕ) (entr
 -- a cell goes
 pub drop_splits : (ids : List ℕ) (es es2 : List (ℕ × ℕ)) (c o : ℕ) → es2 ≡ swap_remove_entry (nat_eq c) es → lookup (nat_eq c) es ≡ Some o → (x : ℕ) → occurs x (places ids es) ≡ occurs x (o ∷ places ids es2)
 drop_splits ids es es2 c o entries is x =
-    omega
-    (
+    omega (
       arith,
       occurs-append x ids (values_of es),
       occurs-cons x o (places ids es2),

@@ -1,14 +1,14 @@
 -- Lists of outside holders, by how often each object stands in them.
-use Rattle.std.proofs.Common.{◌≡◌, ◌≢◌, ℕ, zero, suc, ◌+◌, ◌-◌, ◌<◌, ◌≤◌, inl, inr, List, [], ◌∷◌, ◌++◌, map, set, get_or, length, cond, eqb, Bool, true, false, Option, Some, None, IsSome, is_some, refl, sym, ap, ◌∙◌, arith, subst, nat_eq}
+use Rattle.std.proofs.Common.{◌≡◌, ◌≢◌, ℕ, zero, suc, ◌+◌, ◌<◌, List, [], ◌∷◌, ◌++◌, map, get_or, length, cond, eqb, Bool, true, false, Option, Some, None, refl, ap, ◌∙◌, arith, nat_eq}
 use Rattle.std.specs.Prelude.{swap_remove, position, not, nat_lt}
 use Rattle.std.proofs.lemmas.List.{length-map}
-use Rattle.std.specs.Option.{option_map, option_map_or}
+use Rattle.std.specs.Option.{option_map_or}
 use Rattle.std.specs.List.{sum_by, position_or_len}
 use Rattle.std.specs.Map.{lookup, values_of, keys_of}
-use Rattle.std.proofs.lemmas.Bool.{cases_eq, ne_eqb}
-use Rattle.std.proofs.lemmas.List.Sums.{sum_by-append, sum_by-cons, sum_by-set, sum_by-swap_remove}
+use Rattle.std.proofs.lemmas.Bool.{ne_eqb}
+use Rattle.std.proofs.lemmas.List.Sums.{sum_by-append, sum_by-cons, sum_by-swap_remove}
 use Rattle.indexmap.specs.IndexMap.{insert_entry, swap_remove_entry}
-use Rattle.tclv_heap.specs.Graph.{Graph, at, occurs, same, stuck, HasOutside}
+use Rattle.tclv_heap.specs.Graph.{Graph, occurs, same, HasOutside}
 use Rattle.tclv_heap.specs.Holders.{Holders}
 
 pub occurs-append : (o : ℕ) (xs ys : List ℕ) → occurs o (xs ++ ys) ≡ occurs o xs + occurs o ys
@@ -95,8 +95,7 @@ occurs_swap_remove x test (e ∷ es) o is =
     let index : ℕ = position_or_len test (keys_of (e ∷ es)) in
     let position_is : position test (keys_of (e ∷ es)) ≡ Some index = ap (λ b. cond b (Some index) None) (lt_nat_lt index (length (keys_of (e ∷ es))) f.within) in
     let removed : swap_remove_entry test (e ∷ es) ≡ swap_remove (e ∷ es) index e = ap (λ r. option_map_or (λ i. swap_remove (e ∷ es) i e) r (e ∷ es)) position_is in
-    omega
-    (
+    omega (
       arith,
       ap (λ xs. occurs x (values_of xs)) removed,
       occurs_values x (swap_remove (e ∷ es) index e),

@@ -1,12 +1,12 @@
 -- Objects that are kept as numbers.
-use Rattle.std.proofs.Common.{◌≡◌, ◌≢◌, ℕ, ◌<◌, ℤ, inl, inr, List, set, length, Option, Some, None, Ok, IsSome, is_some, refl, sym, ap, subst, ◌∙◌, arith}
-use Rattle.std.specs.Prelude.{IsTrue, IfSome}
+use Rattle.std.proofs.Common.{◌≡◌, ℕ, ◌<◌, ℤ, inl, inr, List, set, length, Option, Some, None, Ok, IsSome, is_some, refl, sym, ap, subst, ◌∙◌, arith}
+use Rattle.std.specs.Prelude.{IfSome}
 use Rattle.std.proofs.lemmas.Bool.{cases_eq}
 use Rattle.std.proofs.lemmas.List.{get_or-set_same, get_or-set_other, get_or_past}
 use Rattle.tclv_text.specs.Numbers.{whole}
 use Rattle.tclv_text.proofs.NumbersBack.{whole_back}
 use Rattle.tclv_heap.specs.declared.ids.Object.{Object}
-use Rattle.tclv_heap.specs.Graph.{Graph, at, text_in, form_parts}
+use Rattle.tclv_heap.specs.Graph.{at, text_in, form_parts}
 use Rattle.tclv_heap.specs.Dying.{Releases}
 use Rattle.tclv_heap.specs.Stands.{stands, stands_in, said, said_by, HasForm}
 use Rattle.tclv_value.specs.Forms.{form_table}

@@ -1,15 +1,14 @@
 -- From what the heap ensures to what the store's view shows.
-use Rattle.std.proofs.Common.{◌≡◌, ◌≢◌, ℕ, suc, ◌+◌, ◌-◌, ◌<◌, ◌≤◌, inl, inr, List, [], ◌∷◌, ◌++◌, map, length, get_or, set, take, take-take, Bool, true, false, cond, Option, Some, None, IsSome, is_some, refl, sym, ap, ◌∙◌, arith, subst, nat_eq, eqb}
+use Rattle.std.proofs.Common.{◌≡◌, ◌≢◌, ℕ, ◌+◌, ◌-◌, ◌<◌, inl, inr, List, [], ◌∷◌, ◌++◌, map, length, get_or, set, take, take-take, true, false, cond, Option, Some, None, IsSome, is_some, refl, sym, ap, ◌∙◌, arith, subst, nat_eq, eqb}
 use Rattle.std.specs.Prelude.{IsTrue}
 use Rattle.std.specs.Option.{option_map, unwrap_or}
 use Rattle.std.specs.Map.{lookup, values_of}
 use Rattle.std.specs.FinMap.{get, insert, remove}
 use Rattle.std.proofs.Math.ListN.{get_or-append}
-use Rattle.std.proofs.lemmas.Bool.{cases_eq, cases_lt}
+use Rattle.std.proofs.lemmas.Bool.{cases_eq}
 use Rattle.std.proofs.lemmas.List.{map_push, length_push, take_at, get_or-map, length-map, get_or_push, map-set, get_or-set_same, get_or-set_other, length-set, length-take-le}
 use Rattle.std.proofs.lemmas.List.Sums.{sum_by-set}
-use Rattle.tclv_heap.specs.declared.ids.Object.{Object}
-use Rattle.tclv_heap.specs.Graph.{Graph, at, occurs, same, text_in}
+use Rattle.tclv_heap.specs.Graph.{Graph, at, occurs}
 use Rattle.tclv_heap.specs.Stands.{SaysSame}
 use Rattle.tclv_value.specs.Forms.{form_table}
 use Rattle.tclv_value.specs.View.{View, HasPlace, text_at, made_at, IsMade, KeepsMade, KeepsMadeBut, StaysMade}

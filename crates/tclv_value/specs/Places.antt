@@ -1,5 +1,5 @@
 -- The objects behind the places of a store.
-use Rattle.std.specs.Prelude.{◌≡◌, ℕ, ◌<◌, Bool, true, List, ◌++◌, map, length, Option, IsSome, is_some, IsTrue, slice_index_or, nat_eq}
+use Rattle.std.specs.Prelude.{ℕ, ◌<◌, Bool, List, ◌++◌, map, length, IsSome, is_some, IsTrue, slice_index_or, nat_eq}
 use Rattle.std.specs.Option.{unwrap_or}
 use Rattle.std.specs.Map.{lookup, values_of}
 use Rattle.std.specs.Ordering.{nat_cmp}

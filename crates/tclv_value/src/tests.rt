@@ -11,12 +11,7 @@ use tclv_text::{NoMemory, Stats};
 
 // Copies one variable into another and then writes the first. The second keeps what it got, though
 // the two shared one object: this follows from the store's contracts.
-fn copy_then_write(
-    store: &mut Store,
-    from: u64,
-    to: u64,
-    text: &[u8],
-) -> Result<(), NoMemory>
+fn copy_then_write(store: &mut Store, from: u64, to: u64, text: &[u8]) -> Result<(), NoMemory>
     requires there { HasPlace store.old (Cell from) }
     requires apart { from ≢ to }
     requires utf8 { IsText text.now }

@@ -1,4 +1,3 @@
-use Rattle.std.proofs.Common.{◌≡◌, Ok, refl, sym, ap, ◌∙◌}
 use Rattle.tclv_value.proofs.NumberLemmas.{kept_number}
 use Rattle.tclv_value.proofs.numbers.kept_whole.Goals as goal
 

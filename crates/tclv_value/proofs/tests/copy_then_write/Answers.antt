@@ -1,4 +1,4 @@
-use Rattle.std.proofs.Common.{◌≡◌, []}
+use Rattle.std.proofs.Common.{[]}
 use Rattle.tclv_value.proofs.AnswerLemmas.{on_ok}
 use Rattle.tclv_value.proofs.CallerLemmas.{copied, written}
 use Rattle.tclv_value.proofs.tests.copy_then_write.Goals as goal

@@ -1,5 +1,4 @@
-use Rattle.std.proofs.Common.{◌≡◌, ◌∷◌, ◌<◌, ℕ, Option, Some, None, cond, refl, sym, ap, ◌∙◌, nat_eq}
-use Rattle.std.specs.Map.{lookup}
+use Rattle.std.proofs.Common.{◌≡◌, ◌∷◌, ◌<◌, ℕ, sym, ap, ◌∙◌}
 use Rattle.tclv_heap.specs.Graph.{occurs}
 use Rattle.std.specs.FinMap.{remove}
 use Rattle.tclv_value.specs.View.{View}

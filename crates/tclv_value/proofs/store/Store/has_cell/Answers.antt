@@ -1,5 +1,4 @@
-use Rattle.std.proofs.Common.{◌≡◌, sym, ap, ◌∙◌}
-use Rattle.std.specs.Prelude.{IsTrue}
+use Rattle.std.proofs.Common.{sym, ◌∙◌}
 use Rattle.tclv_value.proofs.ViewLemmas.{cell_is_there}
 use Rattle.tclv_value.proofs.store.Store.has_cell.Goals as goal
 

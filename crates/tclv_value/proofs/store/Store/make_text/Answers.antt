@@ -1,4 +1,4 @@
-use Rattle.std.proofs.Common.{◌≡◌, [], refl, sym, ap, ◌∙◌, is_some}
+use Rattle.std.proofs.Common.{◌≡◌, ap, ◌∙◌, is_some}
 use Rattle.tclv_value.specs.Places.{id_at, IsPlaced, places}
 use Rattle.tclv_value.proofs.ViewLemmas.{named_id, named_listed, kept_stack, kept_cells, stays_made, made_there, keeps_same}
 use Rattle.tclv_value.proofs.GraphLemmas.{retexted_made}

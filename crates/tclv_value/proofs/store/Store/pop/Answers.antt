@@ -1,4 +1,4 @@
-use Rattle.std.proofs.Common.{◌≡◌, ◌-◌, ◌+◌, ◌<◌, ◌≤◌, take, length, refl, sym, ap, ◌∙◌, arith}
+use Rattle.std.proofs.Common.{◌≡◌, ◌-◌, take, length, refl, sym, ap, ◌∙◌, arith}
 use Rattle.std.proofs.lemmas.List.{take_all, length-take-le}
 use Rattle.tclv_value.proofs.ViewLemmas.{pop_more, pop_there, KeepsMade_trans}
 use Rattle.tclv_value.proofs.store.Store.pop.Goals as goal
@@ -12,8 +12,7 @@ loop-gone-init c = record {
 
 pub pop_one-requires : goal.pop_one-requires
 pop_one-requires c =
-    omega
-    (
+    omega (
       arith,
       c.requires,
       c.loop-gone-test.true,

@@ -1,4 +1,4 @@
-use Rattle.std.proofs.Common.{◌≡◌, ◌++◌, ◌∷◌, [], refl, sym, ap, subst, ◌∙◌}
+use Rattle.std.proofs.Common.{◌≡◌, ◌++◌, ◌∷◌, [], sym, ap, subst, ◌∙◌}
 use Rattle.std.specs.Option.{option_to_list}
 use Rattle.tclv_value.specs.Places.{IsPlaced, view_of}
 use Rattle.tclv_value.proofs.ViewLemmas.{Shift, top_stack, pop_cells, pop_keeps}

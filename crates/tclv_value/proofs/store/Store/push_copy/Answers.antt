@@ -1,4 +1,4 @@
-use Rattle.std.proofs.Common.{◌≡◌, ◌++◌, ◌∷◌, ◌<◌, [], refl, sym, ap, ◌∙◌}
+use Rattle.std.proofs.Common.{◌≡◌, ◌++◌, ◌∷◌, ◌<◌, [], ap, ◌∙◌}
 use Rattle.tclv_heap.specs.Graph.{occurs}
 use Rattle.tclv_value.specs.Places.{id_at, places}
 use Rattle.tclv_value.proofs.ViewLemmas.{Shift, push_stack, push_cells, push_made, push_keeps, push_listed, named_id, named_listed, named_text, named_made, same_text, same_made}

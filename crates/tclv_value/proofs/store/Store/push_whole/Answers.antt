@@ -1,10 +1,8 @@
-use Rattle.std.proofs.Common.{◌≡◌, ◌++◌, ◌∷◌, [], length, true, refl, sym, ap, ◌∙◌}
+use Rattle.std.proofs.Common.{◌++◌, ◌∷◌, [], ap, ◌∙◌}
 use Rattle.std.specs.Prelude.{is_some}
 use Rattle.std.proofs.Math.Facts.{to_z-of_z}
 use Rattle.tclv_text.specs.Numbers.{whole_text}
-use Rattle.tclv_heap.specs.Graph.{text_in, at}
-use Rattle.tclv_value.specs.View.{View}
-use Rattle.tclv_value.specs.Places.{IsPlaced, made_of}
+use Rattle.tclv_heap.specs.Graph.{text_in}
 use Rattle.tclv_value.proofs.ViewLemmas.{Shift, push_stack, push_cells, push_made, push_keeps}
 use Rattle.tclv_value.proofs.GraphLemmas.{still_adds, placed_push}
 use Rattle.tclv_value.proofs.store.Store.push_whole.Goals as goal

@@ -1,4 +1,4 @@
-use Rattle.std.proofs.Common.{◌≡◌, ◌-◌, ◌<◌, ◌++◌, ◌∷◌, [], ℕ, Bool, Option, Some, None, cond, length, get_or, refl, sym, ap, subst, ◌∙◌, arith, vec_len, nat_eq}
+use Rattle.std.proofs.Common.{◌≡◌, ◌-◌, ◌<◌, ◌++◌, ◌∷◌, [], ℕ, Some, None, cond, get_or, sym, ap, subst, ◌∙◌, arith, vec_len, nat_eq}
 use Rattle.std.specs.Option.{option_to_list}
 use Rattle.std.specs.Map.{lookup}
 use Rattle.indexmap.specs.IndexMap.{insert_entry}
@@ -31,7 +31,6 @@ put c q = c.in_ok-old.ensures.updates.0 q
 
 found : (c : After-pop) → lookup (nat_eq c.args.cell) c.insert.new.self.entries ≡ Some c.index-top.result.now
 found c = c.in_ok-old.ensures.updates.1
-
 
 -- no cell was there
 fresh : (c : After-pop) → lookup (nat_eq c.args.cell) c.self.inside.cells.entries ≡ None → Shift c.self.inside.heap.graph (c.pop.new.self.items ++ c.index-top.result.now ∷ []) c.self.inside.cells.entries c.self.inside.heap.graph c.pop.new.self.items c.insert.new.self.entries

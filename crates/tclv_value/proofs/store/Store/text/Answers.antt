@@ -1,4 +1,4 @@
-use Rattle.std.proofs.Common.{◌≡◌, refl, sym, ap, ◌∙◌}
+use Rattle.std.proofs.Common.{◌≡◌, sym, ap, ◌∙◌}
 use Rattle.tclv_value.specs.Places.{id_at}
 use Rattle.tclv_value.proofs.ViewLemmas.{named_id, named_listed, named_text, named_made}
 use Rattle.tclv_value.proofs.AnswerLemmas.{lent_text, lent_made}
