@@ -7,6 +7,7 @@ ghost use Rattle.tclv_value.specs.View.{HasPlace};
 ghost use Rattle.tclv_value.specs.declared.places.At.TheVariants.{Stack, Cell};
 
 use super::*;
+use tclv_parse::ParseFault;
 use tclv_text::{NoMemory, Stats};
 
 // Copies one variable into another and then writes the first. The second keeps what it got, though
@@ -129,5 +130,16 @@ fn texts_are_read_as_numbers(rt: HostRuntime) -> Result<(), NoMemory> {
         assert_eq!(rt; first, want, "at {text}");
         assert_eq!(rt; again, want, "at {text}");
     }
+    Ok(())
+}
+
+#[test]
+fn scripts_are_read(rt: HostRuntime) -> Result<(), NoMemory> {
+    let mut store = Store::new(rt.alloc());
+    store.push_text("puts a; set b {c".as_bytes())?;
+    let tree = store.script(At::Stack(0))?;
+    assert_eq!(rt; tree.commands.as_slice().len(), 1);
+    assert_eq!(rt; tree.fault, Some(ParseFault::CloseBrace));
+    assert!(rt; has_text(&store, At::Stack(0), "puts a; set b {c"));
     Ok(())
 }
