@@ -1,5 +1,5 @@
 -- The pieces of a script, and its fault, don't depend on the count of bytes by which the places of commands are told.
-use Rattle.std.proofs.Common.{rules, ◌≡◌, ℕ, zero, suc, ◌-◌, ◌==◌, ◌<◌, Bool, true, false, List, [], ◌∷◌, length, drop, take, Option, Ok, Err, Result, refl, sym, ap, ◌∙◌, arith, if◌then◌else◌}
+use Rattle.std.proofs.Common.{◌≡◌, ℕ, zero, suc, ◌-◌, ◌<◌, Bool, true, false, List, [], ◌∷◌, length, drop, take, Ok, refl, sym, ap, ◌∙◌, arith, if◌then◌else◌}
 use Rattle.tclv_text.specs.Cursors.{sign, size, escape_len, escape_char}
 use Rattle.tclv_text.specs.declared.cursors.Sign.{Sign}
 use Rattle.tclv_text.specs.declared.cursors.Sign.TheVariants as s
@@ -9,7 +9,6 @@ use Rattle.tclv_parse.specs.declared.runs.Run.{Run}
 use Rattle.tclv_parse.specs.declared.runs.Run.TheVariants as run
 use Rattle.tclv_parse.specs.declared.pieces.PieceKind.{PieceKind}
 use Rattle.tclv_parse.specs.declared.pieces.PieceKind.TheVariants as k
-use Rattle.tclv_parse.specs.declared.faults.ParseFault.{ParseFault}
 use Rattle.tclv_parse.specs.declared.faults.ParseFault.TheVariants as f
 use Rattle.tclv_parse.specs.declared.tree.Part.{Part}
 use Rattle.tclv_parse.specs.declared.tree.Part.TheVariants as part
@@ -17,7 +16,7 @@ use Rattle.tclv_parse.specs.declared.tree.Word.{Word}
 use Rattle.tclv_parse.specs.declared.tree.Script.{out-Script}
 use Rattle.tclv_parse.specs.Runs.{Text, ends_command, ends_word, stops, step, run_len, run_end, expands}
 use Rattle.tclv_parse.specs.Readings.{Reading, before, emit, valued, join, fails}
-use Rattle.tclv_parse.specs.Grammar.{Deeper, Course, text_before, word_of, named_by, variable_by, part_by, parts_by, parts_step, parts, closed, end_quote, end_index, word_by, plain_word, word, words_by, words_at, words_step, words, ends, halts, command, script_by, script_step, script, enclosed, deeper_by, course, commands, fault_of, fault}
+use Rattle.tclv_parse.specs.Grammar.{Deeper, Course, text_before, word_of, named_by, variable_by, part_by, parts_by, parts_step, parts, end_quote, end_index, word_by, plain_word, word, words_by, words_at, words_step, words, ends, halts, command, script_by, script_step, script, enclosed, deeper_by, course, commands, fault_of, fault}
 use Rattle.tclv_parse.specs.Places.{Out, seen, seen_course, chain}
 use Rattle.tclv_parse.proofs.FixLaws.{fix-both}
 use Rattle.tclv_parse.proofs.PieceLemmas.{less, some, seen-valued, seen-join, chain-local, rest_le}

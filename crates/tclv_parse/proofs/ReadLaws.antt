@@ -1,12 +1,11 @@
 -- What the rules of a word in braces, of words and of scripts read at a place.
-use Rattle.std.proofs.Common.{rules, subst, ◌≡◌, ℕ, suc, ◌-◌, ◌==◌, ◌<◌, ◌≤◌, Bool, true, false, if◌then◌else◌, List, [], ◌∷◌, ◌++◌, length, take, drop, Ok, Err, Some, None, Option, Result, refl, sym, ap, ap₂, ◌∙◌, arith, append_assoc, length-drop}
+use Rattle.std.proofs.Common.{rules, subst, ◌≡◌, ℕ, suc, ◌-◌, ◌==◌, ◌<◌, Bool, true, false, if◌then◌else◌, List, [], ◌∷◌, ◌++◌, length, take, drop, Ok, Err, Some, None, Option, Result, refl, sym, ap, ap₂, ◌∙◌, arith}
 use Rattle.std.proofs.lemmas.List.{append-nil}
 use Rattle.tclv_text.specs.Cursors.{sign, escape_len, escape_char}
 use Rattle.tclv_text.specs.declared.cursors.Sign.{Sign}
 use Rattle.tclv_text.specs.declared.cursors.Sign.TheVariants as s
 use Rattle.tclv_parse.specs.declared.runs.Form.{Form}
 use Rattle.tclv_parse.specs.declared.runs.Form.TheVariants as form
-use Rattle.tclv_parse.specs.declared.runs.Run.{Run}
 use Rattle.tclv_parse.specs.declared.runs.Run.TheVariants as run
 use Rattle.tclv_parse.specs.declared.pieces.PieceKind.TheVariants as k
 use Rattle.tclv_parse.specs.declared.faults.ParseFault.{ParseFault}
@@ -17,14 +16,13 @@ use Rattle.tclv_parse.specs.declared.tree.Word.{Word}
 use Rattle.tclv_parse.specs.declared.tree.Command.{Command}
 use Rattle.tclv_parse.specs.declared.tree.Script.{Script, out-Script, the_lemmas}
 use Rattle.tclv_parse.specs.Runs.{Text, step, ends_word, ends_command, stops, run_len, run_end, level_of, expands}
-use Rattle.tclv_parse.specs.Readings.{Piece, Reading, End, valued, valued_end, emit, done, fails, join}
+use Rattle.tclv_parse.specs.Readings.{Reading, End, valued, valued_end, emit, done, join}
 use Rattle.tclv_parse.specs.Grammar.{Deeper, Course, text_before, text_part, word_of, variable_by, part_by, parts_by, parts, raw, braced_by, braced, closed, end_quote, end_index, word_by, plain_word, word, words_by, words_at, words, ends, halts, place, command_of, command_before, command, script_by, script_of, script, enclosed, enclosed_end, deeper_by, fault_of}
 use Rattle.tclv_parse.specs.Places.{end_of, seen}
 use Rattle.tclv_parse.specs.Readers.{Runs, behind}
 use Rattle.tclv_parse.proofs.PieceLemmas.{less, some}
 use Rattle.tclv_parse.proofs.RunLaws.{passes, run-taken, literal-step, brace-step}
 use Rattle.tclv_parse.proofs.Rules.{IsDeeper, words-strict, braced-is, parts-is, words-is, script-is}
-use Rattle.tclv_parse.proofs.TreeLaws.{join-ok, join-err}
 
 -- the commands of a script before its fault, and the text behind it or the fault
 abbrev Reached : Type 0

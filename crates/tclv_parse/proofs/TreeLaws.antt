@@ -1,8 +1,7 @@
 -- Values of readings, and the parts that are found.
-use Rattle.std.proofs.Common.{◌≡◌, ℕ, ◌<◌, ◌≤◌, List, [], ◌∷◌, ◌++◌, length, Ok, Err, Some, None, Option, Result, refl, sym, ap, ap₂, subst, ◌∙◌, arith, append_assoc, IfOk, IsErrAnd}
+use Rattle.std.proofs.Common.{◌≡◌, ℕ, ◌<◌, List, [], ◌∷◌, ◌++◌, length, Ok, Err, Some, None, Option, Result, refl, sym, ap, ap₂, subst, ◌∙◌, arith, append_assoc, IfOk, IsErrAnd}
 use Rattle.std.specs.Str.{chars}
 use Rattle.std.proofs.lemmas.Str.{encodes-chars}
-use Rattle.std.proofs.lemmas.List.{append-nil}
 use lib.Utf8.{encodes}
 use Rattle.tclv_text.specs.Texts.{IsText}
 use Rattle.tclv_parse.specs.declared.faults.ParseFault.{ParseFault}
@@ -14,7 +13,7 @@ use Rattle.tclv_parse.specs.declared.joining.Found.{Found}
 use Rattle.tclv_parse.specs.Runs.{Text}
 use Rattle.tclv_parse.specs.Readings.{Piece, Reading, End, valued_end, join, join_end}
 use Rattle.tclv_parse.specs.Grammar.{text_before, text_part}
-use Rattle.tclv_parse.specs.Trees.{ReadsEnd, ReadsPart, IsMemory, Goes, pending, parts_before, text_of, literal_of, IsSubstitution, Adds}
+use Rattle.tclv_parse.specs.Trees.{ReadsEnd, ReadsPart, IsMemory, Goes, pending, parts_before, text_of, literal_of, IsSubstitution}
 
 -- ---- values of what was read
 

@@ -1,5 +1,5 @@
 -- Names of variables, and variables alone.
-use Rattle.std.proofs.Common.{◌≡◌, ℕ, zero, suc, ◌-◌, ◌+◌, ◌<◌, ◌≤◌, Bool, true, false, if◌then◌else◌, List, [], ◌∷◌, ◌++◌, length, take, drop, Option, Some, None, Ok, Err, Result, refl, sym, ap, ap₂, ◌∙◌, arith, length-drop}
+use Rattle.std.proofs.Common.{◌≡◌, ℕ, zero, suc, ◌-◌, ◌≤◌, Bool, true, false, if◌then◌else◌, List, [], ◌∷◌, ◌++◌, length, take, drop, Some, None, Ok, Err, refl, sym, ap, ap₂, ◌∙◌, arith, length-drop}
 use Rattle.tclv_text.specs.Cursors.{sign}
 use Rattle.tclv_text.specs.declared.cursors.Sign.{Sign}
 use Rattle.tclv_text.specs.declared.cursors.Sign.TheVariants as s
@@ -13,7 +13,7 @@ use Rattle.tclv_parse.specs.Runs.{Text, step, option_case, run_len, run_end}
 use Rattle.tclv_parse.specs.Readings.{Piece, Reading, End, done, valued_end, join_end}
 use Rattle.tclv_parse.specs.Grammar.{Deeper, named_by, variable_by}
 use Rattle.tclv_parse.specs.Trees.{enclosed_by, enclosed_name}
-use Rattle.tclv_parse.proofs.RunLaws.{step-end, drop-next, next_len, next_end, Passes, passes-one}
+use Rattle.tclv_parse.proofs.RunLaws.{drop-next, next_len, next_end, Passes, passes-one}
 
 drop-none : (n : ℕ) → drop {A = ℕ} n [] ≡ []
 drop-none zero = refl

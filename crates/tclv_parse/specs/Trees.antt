@@ -1,21 +1,16 @@
 -- What the readers of trees give.
-use Rattle.std.specs.Prelude.{◌≡◌, ℕ, ◌-◌, Bool, List, [], ◌∷◌, ◌++◌, take, drop, Option, Some, None, Result, Ok, Err}
-use Rattle.tclv_parse.specs.declared.faults.ParseFault.{ParseFault}
+use Rattle.std.specs.Prelude.{◌≡◌, ℕ, ◌-◌, List, [], ◌∷◌, ◌++◌, take, drop, Option, Some, None, Result, Ok, Err}
 use Rattle.tclv_parse.specs.declared.faults.ParseFault.TheVariants as f
-use Rattle.tclv_parse.specs.declared.runs.Form.{Form}
 use Rattle.tclv_parse.specs.declared.runs.Run.{Run}
 use Rattle.tclv_parse.specs.declared.runs.Run.TheVariants as run
 use Rattle.tclv_parse.specs.declared.tree.Part.{Part}
 use Rattle.tclv_parse.specs.declared.tree.Part.TheVariants as part
-use Rattle.tclv_parse.specs.declared.tree.Word.{Word}
-use Rattle.tclv_parse.specs.declared.tree.Command.{Command}
-use Rattle.tclv_parse.specs.declared.tree.Script.{Script}
 use Rattle.tclv_parse.specs.declared.stops.Stop.{Stop}
 use Rattle.tclv_parse.specs.declared.stops.Stop.TheVariants.{Fault, NoMemory}
 use Rattle.tclv_parse.specs.declared.joining.Found.{Found}
 use Rattle.tclv_parse.specs.Runs.{Text, run_len, run_end}
-use Rattle.tclv_parse.specs.Readings.{Reading, End, done, valued_end}
-use Rattle.tclv_parse.specs.Grammar.{Deeper, text_before, variable_by, parts, words, script, script_of, deeper_by}
+use Rattle.tclv_parse.specs.Readings.{Reading, End}
+use Rattle.tclv_parse.specs.Grammar.{text_before, parts}
 
 -- ---- answers
 

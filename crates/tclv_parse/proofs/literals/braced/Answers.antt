@@ -1,6 +1,6 @@
 use Rattle.std.proofs.Common.{◌≡◌, ◌==◌, ◌<◌, ℕ, false, List, [], ◌∷◌, ◌++◌, length, drop, take, Ok, ap, ap₂, sym, ◌∙◌, arith, append_assoc, length-drop}
 use Rattle.std.proofs.lemmas.List.{append-nil}
-use Rattle.tclv_text.specs.Cursors.{sign, escape_char, escape_len}
+use Rattle.tclv_text.specs.Cursors.{sign, escape_char}
 use Rattle.tclv_text.specs.declared.cursors.Sign.TheVariants as s
 use Rattle.tclv_parse.specs.declared.runs.Run.TheVariants as run
 use Rattle.tclv_parse.specs.Runs.{run_len, run_end, level_of}

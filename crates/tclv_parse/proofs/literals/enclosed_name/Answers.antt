@@ -1,5 +1,4 @@
-use Rattle.std.proofs.Common.{◌≡◌, ◌++◌, suc, length, take, drop, Ok, ap, ap₂, sym, ◌∙◌, refl}
-use Rattle.std.specs.Str.{chars}
+use Rattle.std.proofs.Common.{◌≡◌, ◌++◌, suc, take, drop, Ok, ap, ap₂, sym, ◌∙◌}
 use Rattle.tclv_text.specs.Cursors.{sign}
 use Rattle.tclv_parse.specs.declared.runs.Run.TheVariants as run
 use Rattle.tclv_parse.proofs.RunLaws.{passes-none, passes-one, run-shorter, later}

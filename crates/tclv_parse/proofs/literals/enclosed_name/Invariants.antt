@@ -1,4 +1,4 @@
-use Rattle.std.proofs.Common.{◌≡◌, ℕ, length}
+use Rattle.std.proofs.Common.{ℕ, length}
 use Rattle.tclv_parse.specs.declared.runs.Run.TheVariants as run
 use Rattle.tclv_parse.proofs.RunLaws.{Passes}
 use Rattle.tclv_parse.proofs.literals.enclosed_name.Given as goal

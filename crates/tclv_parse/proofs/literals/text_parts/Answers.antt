@@ -1,7 +1,5 @@
 use Rattle.std.proofs.Common.{◌≡◌, ◌<◌, ◌++◌, length, [], ◌∷◌, ap, sym, ◌∙◌, arith}
-use Rattle.std.specs.Str.{chars}
 use Rattle.std.proofs.lemmas.Bool.Decides.{nat_tests}
-use Rattle.std.proofs.lemmas.Str.{chars-nil}
 use Rattle.tclv_text.proofs.CursorLemmas.{chars-empty}
 use Rattle.tclv_parse.specs.declared.tree.Part.TheVariants as part
 use Rattle.tclv_parse.specs.Grammar.{text_part}

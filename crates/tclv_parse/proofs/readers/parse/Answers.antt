@@ -4,7 +4,7 @@ use Rattle.std.proofs.lemmas.Str.{encodes-chars}
 use Rattle.tclv_text.specs.Cursors.{size}
 use Rattle.tclv_parse.specs.declared.tree.Script.{Script}
 use Rattle.tclv_parse.specs.Runs.{Text}
-use Rattle.tclv_parse.specs.Grammar.{Course, script, script_of, fault_of, course, commands, deeper_by, max_depth}
+use Rattle.tclv_parse.specs.Grammar.{script, script_of, fault_of, course, commands, deeper_by, max_depth}
 use Rattle.tclv_parse.specs.Readers.{Run}
 use Rattle.tclv_parse.specs.Readers as spec
 use Rattle.tclv_parse.proofs.ReadLaws.{runs-whole}

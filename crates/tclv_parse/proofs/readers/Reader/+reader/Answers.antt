@@ -1,6 +1,7 @@
-use Rattle.std.proofs.Common.{◌≡◌, ◌==◌, ◌<◌, ◌≤◌, ◌-◌, ◌^◌, suc, ℕ, Bool, true, false, if◌then◌else◌, List, [], ◌∷◌, ◌++◌, length, drop, take, Ok, Err, Some, None, Result, Option, refl, inl, inr, ap, ap₂, sym, subst, ◌∙◌, arith, append_assoc, length-drop}
+use Rattle.std.proofs.Common.{◌≡◌, ◌<◌, ◌-◌, ℕ, Bool, true, false, List, [], ◌∷◌, ◌++◌, length, drop, take, Ok, Err, Result, refl, inl, inr, ap, sym, subst, ◌∙◌, arith, append_assoc, length-drop}
 use Rattle.std.proofs.lemmas.List.{append-nil}
-use Rattle.tclv_text.specs.Cursors.{sign, size, escape_char, escape_len}
+use Rattle.tclv_text.specs.Cursors.{sign, escape_char, escape_len}
+use Rattle.tclv_text.specs.declared.cursors.Sign.{Sign}
 use Rattle.tclv_text.specs.declared.cursors.Sign.TheVariants as s
 use Rattle.tclv_parse.specs.declared.runs.Form.{Form}
 use Rattle.tclv_parse.specs.declared.runs.Form.TheVariants as form
@@ -12,8 +13,8 @@ use Rattle.tclv_parse.specs.declared.tree.Part.TheVariants as part
 use Rattle.tclv_parse.specs.declared.tree.Word.{Word}
 use Rattle.tclv_parse.specs.declared.tree.Command.{Command}
 use Rattle.tclv_parse.specs.declared.readers.Reader.{Reader}
-use Rattle.tclv_parse.specs.Runs.{Text, run_len, run_end, stops, ends_word, ends_command, expands}
-use Rattle.tclv_parse.specs.Readings.{Reading, End, valued_end, join}
+use Rattle.tclv_parse.specs.Runs.{Text, run_len, run_end, stops, ends_command, expands}
+use Rattle.tclv_parse.specs.Readings.{Reading, valued_end, join}
 use Rattle.tclv_parse.specs.Grammar as grammar
 use Rattle.tclv_parse.specs.Trees.{parts_before, enclosed_name, ReadsEnd}
 use Rattle.tclv_parse.specs.Readers as spec
@@ -142,6 +143,19 @@ closes_not r u h i =
       no_hash = λ z. let e : s.CloseBracket ≡ s.Hash = sym h ∙ z in cc;
     }
 
+-- a sign that has no meaning of its own between commands
+opens : (r : Reader) (u : Text) (x : Sign) → x ≡ sign u → (x ≡ s.End → ⊥) → (x ≡ s.CloseBracket → ⊥) → (x ≡ s.Blank → ⊥) → (x ≡ s.Fold → ⊥) → (x ≡ s.Newline → ⊥) → (x ≡ s.Semicolon → ⊥) → (x ≡ s.Hash → ⊥) → Begins (spec.deeper r) (deeper r) r.inner u r.whole
+opens r u x e end close blank fold newline semicolon hash =
+    record {
+      no_end = λ z. end (e ∙ z);
+      no_close = λ z. absurd (close (e ∙ z));
+      no_blank = λ z. blank (e ∙ z);
+      no_fold = λ z. fold (e ∙ z);
+      no_newline = λ z. newline (e ∙ z);
+      no_semicolon = λ z. semicolon (e ∙ z);
+      no_hash = λ z. hash (e ∙ z);
+    }
+
 other_test : (b : Bool) → b ≡ true → b ≡ false → ⊥
 other_test b p q = let e : true ≡ false = sym p ∙ q in cc
 
@@ -155,16 +169,7 @@ commands-commands-smaller t c =
     let begins : Begins (spec.deeper r) (deeper r) r.inner u r.whole
     = elim c.in_default.branch [
       | commands-in_default-via-in-CloseBracket+else-self w ↦ closes_not r u (sym c.peek.ensures ∙ w.in-CloseBracket.is) w.if-self.false
-      | commands-in_default-via-in_default w ↦
-          record {
-            no_end = λ z. w.in_default.not-End (c.peek.ensures ∙ z);
-            no_close = λ z. absurd (w.in_default.not-CloseBracket (c.peek.ensures ∙ z));
-            no_blank = λ z. w.in_default.not-Blank (c.peek.ensures ∙ z);
-            no_fold = λ z. w.in_default.not-Fold (c.peek.ensures ∙ z);
-            no_newline = λ z. w.in_default.not-Newline (c.peek.ensures ∙ z);
-            no_semicolon = λ z. w.in_default.not-Semicolon (c.peek.ensures ∙ z);
-            no_hash = λ z. w.in_default.not-Hash (c.peek.ensures ∙ z);
-          }
+      | commands-in_default-via-in_default w ↦ opens r u c.peek.result c.peek.ensures w.in_default.not-End w.in_default.not-CloseBracket w.in_default.not-Blank w.in_default.not-Fold w.in_default.not-Newline w.in_default.not-Semicolon w.in_default.not-Hash
     ] in
     let k : length c.words.new.cursor < length u = words_taken r u c.words.new.cursor c.in-Ok.words (law.command-goes (spec.deeper r) (deeper r) r.inner u r.whole begins) c.in-Ok.ensures in k
 
@@ -175,16 +180,7 @@ commands-commands-preserved t c =
     let begins : Begins (spec.deeper r) (deeper r) r.inner u r.whole
     = elim c.in_default.branch [
       | commands-in_default-via-in-CloseBracket+else-self w ↦ closes_not r u (sym c.peek.ensures ∙ w.in-CloseBracket.is) w.if-self.false
-      | commands-in_default-via-in_default w ↦
-          record {
-            no_end = λ z. w.in_default.not-End (c.peek.ensures ∙ z);
-            no_close = λ z. absurd (w.in_default.not-CloseBracket (c.peek.ensures ∙ z));
-            no_blank = λ z. w.in_default.not-Blank (c.peek.ensures ∙ z);
-            no_fold = λ z. w.in_default.not-Fold (c.peek.ensures ∙ z);
-            no_newline = λ z. w.in_default.not-Newline (c.peek.ensures ∙ z);
-            no_semicolon = λ z. w.in_default.not-Semicolon (c.peek.ensures ∙ z);
-            no_hash = λ z. w.in_default.not-Hash (c.peek.ensures ∙ z);
-          }
+      | commands-in_default-via-in_default w ↦ opens r u c.peek.result c.peek.ensures w.in_default.not-End w.in_default.not-CloseBracket w.in_default.not-Blank w.in_default.not-Fold w.in_default.not-Newline w.in_default.not-Semicolon w.in_default.not-Hash
     ] in
     record {
       ahead =
@@ -200,16 +196,7 @@ commands-returns-in-Err-Fault t c =
     let begins : Begins (spec.deeper r) (deeper r) r.inner u r.whole
     = elim c.in_default.branch [
       | commands-in_default-via-in-CloseBracket+else-self w ↦ closes_not r u (sym c.peek.ensures ∙ w.in-CloseBracket.is) w.if-self.false
-      | commands-in_default-via-in_default w ↦
-          record {
-            no_end = λ z. w.in_default.not-End (c.peek.ensures ∙ z);
-            no_close = λ z. absurd (w.in_default.not-CloseBracket (c.peek.ensures ∙ z));
-            no_blank = λ z. w.in_default.not-Blank (c.peek.ensures ∙ z);
-            no_fold = λ z. w.in_default.not-Fold (c.peek.ensures ∙ z);
-            no_newline = λ z. w.in_default.not-Newline (c.peek.ensures ∙ z);
-            no_semicolon = λ z. w.in_default.not-Semicolon (c.peek.ensures ∙ z);
-            no_hash = λ z. w.in_default.not-Hash (c.peek.ensures ∙ z);
-          }
+      | commands-in_default-via-in_default w ↦ opens r u c.peek.result c.peek.ensures w.in_default.not-End w.in_default.not-CloseBracket w.in_default.not-Blank w.in_default.not-Fold w.in_default.not-Newline w.in_default.not-Semicolon w.in_default.not-Hash
     ] in
     let fault : (spec.words r u).1 ≡ Err c.in-Err-Fault.fault = rw c.in-Err-Fault.field-0-is at c.in-Err-Fault.ensures in
     law.runs-end (spec.commands r c.args.cursor.now) c.commands.commands (Err c.in-Err-Fault.fault) _ c.words.new.cursor
