@@ -9,11 +9,13 @@ ghost use Rattle.tclv_text.specs.Indices.{base, cut, place, index, is_sign, is_l
 
 use crate::characters::is_space;
 use crate::numbers::whole_of;
+use thiserror::Error;
 
 /// Why a text is no place.
-#[derive(Clone, Copy, Debug, PartialEq, Eq)]
+#[derive(Clone, Copy, Debug, PartialEq, Eq, Error)]
 pub enum IndexFault {
     /// It has the form of none, or a number in it is no whole number of 64 bits.
+    #[error("not an index")]
     BadIndex,
 }
 

@@ -10,15 +10,19 @@ ghost use Rattle.tclv_text.specs.Numbers.{trim, number, radix_of, number_in, bas
 use crate::NoMemory;
 use crate::characters::{digit, is_space, space_len};
 use itoa::Buffer;
+use thiserror::Error;
 
 /// Why a text is no whole number of 64 bits.
-#[derive(Clone, Copy, Debug, PartialEq, Eq)]
+#[derive(Clone, Copy, Debug, PartialEq, Eq, Error)]
 pub enum WholeFault {
     /// It has the form of no number.
+    #[error("not a whole number")]
     NotWhole,
     /// It has the form of a whole number, whose value is outside -2^63..2^63-1.
+    #[error("whole number too large")]
     TooLarge,
     /// It has the form of a floating point number.
+    #[error("a floating point number")]
     FloatForm,
 }
 
