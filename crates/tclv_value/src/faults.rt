@@ -1,0 +1,46 @@
+// Why a value is refused.
+ghost use Rattle.std.specs.Prelude.{◌≡◌};
+
+use tclv_text::{NoMemory, WholeFault};
+use thiserror::Error;
+
+/// Why a text is not what a call wants of it.
+#[derive(Clone, Copy, Debug, PartialEq, Eq, Error)]
+pub enum ValueFault {
+    /// It has the form of no number.
+    #[error("not a whole number")]
+    NotWhole,
+    /// It has the form of a whole number, whose value is outside -2^63..2^63-1.
+    #[error("whole number too large")]
+    TooLarge,
+    /// It has the form of a floating point number.
+    #[error("a floating point number")]
+    FloatForm,
+    /// Memory ran out.
+    #[error("out of memory")]
+    NoMemory,
+}
+
+impl From<WholeFault> for ValueFault {
+    ghost use Rattle.tclv_value.specs.Answers.{value_fault};
+
+    ghost from_gives = { λ f e. e ≡ value_fault f };
+
+    fn from(fault: WholeFault) -> ValueFault {
+        match fault {
+            WholeFault::NotWhole => ValueFault::NotWhole,
+            WholeFault::TooLarge => ValueFault::TooLarge,
+            WholeFault::FloatForm => ValueFault::FloatForm,
+        }
+    }
+}
+
+impl From<NoMemory> for ValueFault {
+    ghost use Rattle.tclv_value.specs.declared.faults.ValueFault.TheVariants as fault;
+
+    ghost from_gives = { λ _ e. e ≡ fault.NoMemory };
+
+    fn from(_: NoMemory) -> ValueFault {
+        ValueFault::NoMemory
+    }
+}
