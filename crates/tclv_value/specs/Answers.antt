@@ -17,3 +17,4 @@ RefusesWhole fault.NotWhole answer = answer ≡ Err read.NotWhole
 RefusesWhole fault.TooLarge answer = answer ≡ Err read.TooLarge
 RefusesWhole fault.FloatForm answer = answer ≡ Err read.FloatForm
 RefusesWhole fault.NoMemory answer = Unit {0}
+RefusesWhole _ answer = ⊥

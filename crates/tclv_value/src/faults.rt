@@ -1,7 +1,7 @@
 // Why a value is refused.
 ghost use Rattle.std.specs.Prelude.{◌≡◌};
 
-use tclv_text::{NoMemory, WholeFault};
+use tclv_text::{ListFault, NoMemory, WholeFault};
 use thiserror::Error;
 
 /// Why a text is not what a call wants of it.
@@ -16,6 +16,16 @@ pub enum ValueFault {
     /// It has the form of a floating point number.
     #[error("a floating point number")]
     FloatForm,
+    /// It is no list, and this is why: the first fault from the left, but never its want of memory.
+    #[error("not a list: {0}")]
+    NotList(ListFault),
+    /// It has the form of no index.
+    #[error("not an index")]
+    BadIndex,
+    /// It names no place of its list. The number is its own place in the path, from 0 for the index
+    /// that is used first.
+    #[error("index {0} of the path is out of range")]
+    OutOfRange(usize),
     /// Memory ran out.
     #[error("out of memory")]
     NoMemory,

@@ -15,8 +15,11 @@
 
 mod faults;
 mod forms;
+mod list_paths;
+mod lists;
 mod numbers;
 mod places;
+mod sequences;
 mod store;
 
 pub use faults::ValueFault;
