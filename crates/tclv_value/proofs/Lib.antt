@@ -5,3 +5,5 @@ pub mod GraphLemmas
 pub mod AnswerLemmas
 pub mod NumberLemmas
 pub mod CallerLemmas
+pub mod ElementLemmas
+pub mod ChangeLemmas

@@ -1,5 +1,6 @@
 pub mod Answers
 pub mod Changes
+pub mod Elements
 pub mod Forms
 pub mod Lists
 pub mod Paths

@@ -45,6 +45,19 @@ impl From<WholeFault> for ValueFault {
     }
 }
 
+impl From<ListFault> for ValueFault {
+    ghost use Rattle.tclv_value.specs.Answers.{list_fault};
+
+    ghost from_gives = { λ f e. e ≡ list_fault f };
+
+    fn from(fault: ListFault) -> ValueFault {
+        match fault {
+            ListFault::NoMemory => ValueFault::NoMemory,
+            _ => ValueFault::NotList(fault),
+        }
+    }
+}
+
 impl From<NoMemory> for ValueFault {
     ghost use Rattle.tclv_value.specs.declared.faults.ValueFault.TheVariants as fault;
 

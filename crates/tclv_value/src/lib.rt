@@ -13,6 +13,8 @@
 //! - After a refusal each place has the text that it had, and a made text stays made.
 #![tactic(auto)]
 
+mod changes;
+mod elements;
 mod faults;
 mod forms;
 mod list_paths;

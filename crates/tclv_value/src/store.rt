@@ -268,6 +268,11 @@ impl Store {
         }
     }
 
+    // Where the store's memory comes from.
+    pub(crate) fn alloc(&self) -> Global {
+        self.alloc
+    }
+
     /// How much work the store did.
     pub fn stats(&self) -> Stats {
         self.heap.stats()
