@@ -7,6 +7,7 @@ ghost use Rattle.tclv_value.specs.View.{HasPlace, text_at, StaysMade};
 ghost use Rattle.tclv_value.specs.Changes.{top, IsUnder, KeepsTexts, Pushes, Gathers, Puts};
 ghost use Rattle.tclv_value.specs.Lists.{RefusesList, replaced, part};
 
+use crate::elements::{add_elements, element_at, element_count, list_bytes};
 use crate::faults::ValueFault;
 use crate::places::At;
 use crate::store::Store;
@@ -24,7 +25,8 @@ impl Store {
         ensures refused { IfErr result (λ fault. RefusesList fault (text_at self.old at)) }
         ensures kept { KeepsTexts self.old self.new }
     {
-        Err(ValueFault::NoMemory)
+        self.make_text(at)?;
+        element_count(self.alloc(), self.made_text(at))
     }
 
     /// Pushes the element at a place of the list that the text of `at` is, counted from 0. It says
@@ -43,7 +45,15 @@ impl Store {
         ensures refused { IfErr result (λ fault. RefusesList fault (text_at self.old at)) }
         ensures kept { OnErr result (KeepsTexts self.old self.new) }
     {
-        Err(ValueFault::NoMemory)
+        self.make_text(at)?;
+        let element = element_at(self.alloc(), self.made_text(at), k)?;
+        match element {
+            Some(text) => {
+                self.push_bytes(text.bytes())?;
+                Ok(true)
+            }
+            None => Ok(false),
+        }
     }
 
     /// Makes one text of the top `n`: the canonical text of their list, the lowest of them first. Of
@@ -55,7 +65,9 @@ impl Store {
             (Gathers self.old n (list_text (top n self.old.stack)) self.new) }
         ensures kept { OnErr result (KeepsTexts self.old self.new) }
     {
-        Err(NoMemory)
+        let texts = self.top_texts(n)?;
+        let list = list_bytes(self.alloc(), texts.as_slice())?;
+        self.gather(n, list.as_slice())
     }
 
     /// Takes the top text, and adds it as the last element to the list that the text of `at` is. The
@@ -70,7 +82,12 @@ impl Store {
         ensures refused { IfErr result (λ fault. RefusesList fault (text_at self.old at)) }
         ensures kept { OnErr result (KeepsTexts self.old self.new) }
     {
-        Err(ValueFault::NoMemory)
+        let elements = self.elements_at(at)?;
+        let added = self.top_texts(1)?;
+        let mut list = list_bytes(self.alloc(), elements.as_slice())?;
+        add_elements(added.as_slice(), &mut list)?;
+        self.put(1, at, list.as_slice())?;
+        Ok(())
     }
 
     /// Takes the top `n` texts, and puts them, the lowest first, in place of the elements from `from`
@@ -88,7 +105,14 @@ impl Store {
         ensures refused { IfErr result (λ fault. RefusesList fault (text_at self.old at)) }
         ensures kept { OnErr result (KeepsTexts self.old self.new) }
     {
-        Err(ValueFault::NoMemory)
+        let elements = self.elements_at(at)?;
+        let added = self.top_texts(n)?;
+        let old = elements.as_slice();
+        let mut list = list_bytes(self.alloc(), &old[..from as usize])?;
+        add_elements(added.as_slice(), &mut list)?;
+        add_elements(&old[to as usize..], &mut list)?;
+        self.put(n, at, list.as_slice())?;
+        Ok(())
     }
 
     /// Pushes the canonical text of the list that the text of `at` is, from its last element to its
@@ -103,7 +127,11 @@ impl Store {
         ensures refused { IfErr result (λ fault. RefusesList fault (text_at self.old at)) }
         ensures kept { OnErr result (KeepsTexts self.old self.new) }
     {
-        Err(ValueFault::NoMemory)
+        let mut elements = self.elements_at(at)?;
+        elements.reverse();
+        let list = list_bytes(self.alloc(), elements.as_slice())?;
+        self.push_bytes(list.as_slice())?;
+        Ok(())
     }
 
     /// Pushes the canonical text of a part of the list that the text of `at` is: of the `len` elements
@@ -119,6 +147,11 @@ impl Store {
         ensures refused { IfErr result (λ fault. RefusesList fault (text_at self.old at)) }
         ensures kept { OnErr result (KeepsTexts self.old self.new) }
     {
-        Err(ValueFault::NoMemory)
+        let elements = self.elements_at(at)?;
+        let from = from as usize;
+        let part = &elements.as_slice()[from..from + len as usize];
+        let list = list_bytes(self.alloc(), part)?;
+        self.push_bytes(list.as_slice())?;
+        Ok(())
     }
 }
