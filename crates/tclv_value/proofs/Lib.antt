@@ -7,3 +7,4 @@ pub mod NumberLemmas
 pub mod CallerLemmas
 pub mod ElementLemmas
 pub mod ChangeLemmas
+pub mod SequenceLemmas

@@ -19,8 +19,12 @@ sequence start step count = map (λ k. whole_text (number_at start step k)) (ran
 abbrev pub IsInWords : ℤ → ℤ → ℕ → Type 0
 IsInWords start step count = (k : ℕ) → k < count → FitsSigned w64 (number_at start step k)
 
+-- one of the numbers has more than 64 bits
+abbrev pub LeavesWords : ℤ → ℤ → ℕ → Type 0
+LeavesWords start step count = (k : ℕ) × (k < count) × (FitsSigned w64 (number_at start step k) → ⊥)
+
 -- A sequence is refused: one of its numbers has more than 64 bits, or memory ran out.
 abbrev pub RefusesSequence : ValueFault → ℤ → ℤ → ℕ → Type 0
-RefusesSequence fault.TooLarge start step count = (k : ℕ) × (k < count) × (FitsSigned w64 (number_at start step k) → ⊥)
+RefusesSequence fault.TooLarge start step count = LeavesWords start step count
 RefusesSequence fault.NoMemory start step count = Unit {0}
 RefusesSequence _ start step count = ⊥

@@ -79,7 +79,7 @@ fn texts_at(alloc: Global, text: &[u8], spans: &[Span]) -> Result<Vec<Text>, NoM
 }
 
 // Adds an element to the canonical text of a list, or some of it where memory runs out.
-fn add_element(element: &[u8], list: &mut Vec<u8>) -> Result<(), NoMemory>
+pub(crate) fn add_element(element: &[u8], list: &mut Vec<u8>) -> Result<(), NoMemory>
     requires { IsText element.now }
     ensures { OnOk result ((ts : List (List ℕ)) → IsListText ts list.old.items →
         IsListText (ts ++ chars element.now ∷ []) list.new.items) }
