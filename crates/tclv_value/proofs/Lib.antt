@@ -8,3 +8,4 @@ pub mod CallerLemmas
 pub mod ElementLemmas
 pub mod ChangeLemmas
 pub mod SequenceLemmas
+pub mod PathLemmas
