@@ -3,3 +3,4 @@ pub mod Forms
 pub mod View
 pub mod Places
 pub mod Stacks
+pub mod ListCommands
