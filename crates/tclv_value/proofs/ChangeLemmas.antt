@@ -6,19 +6,11 @@ use Rattle.std.specs.FinMap.{get, insert}
 use Rattle.std.proofs.lemmas.List.{length_push, length-set, length-take-le, take_at, get_or_push, set-append_left}
 use Rattle.std.proofs.Math.Seq.{take-set-lt}
 use Rattle.tclv_value.specs.View.{View, HasPlace, text_at, made_at, IsMade, KeepsMade, KeepsMadeBut, StaysMade}
-use Rattle.tclv_value.specs.Changes.{top, under, IsUnder, stack_put, cells_put, KeepsTexts, Pushes, Gathers, Puts}
+use Rattle.tclv_value.specs.Changes.{IsUnder, stack_put, cells_put, Pushes, Puts}
+use Rattle.tclv_value.specs.Stacks.{under}
 use Rattle.tclv_value.specs.declared.places.At.{At}
 use Rattle.tclv_value.specs.declared.places.At.TheVariants.{Stack, Cell}
 use Rattle.tclv_value.proofs.CallerLemmas.{put_there, get_other}
-
--- what is under some texts is there
-pub under_there : (v : View) (n : ℕ) (place : At) → IsUnder v n place → HasPlace v place
-under_there v n (Stack i) is = omega arith
-under_there v n (Cell c) is = is.1
-
-pub under_room : (v : View) (n : ℕ) (place : At) → IsUnder v n place → n ≤ length v.stack
-under_room v n (Stack i) is = omega arith
-under_room v n (Cell c) is = is.0
 
 -- a text that stays through a call that keeps it
 pub stays_through : (v w : View) (changed place : At) → KeepsMadeBut v changed w → place ≢ changed → HasPlace v place → HasPlace w place → IsMade v place → IsMade w place

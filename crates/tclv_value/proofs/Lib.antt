@@ -9,3 +9,8 @@ pub mod ElementLemmas
 pub mod ChangeLemmas
 pub mod SequenceLemmas
 pub mod PathLemmas
+pub mod SignLemmas
+pub mod BraceLemmas
+pub mod BareLemmas
+pub mod SpellingLemmas
+pub mod CommandLemmas

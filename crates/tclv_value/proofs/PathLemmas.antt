@@ -21,10 +21,6 @@ use Rattle.tclv_value.specs.declared.faults.ValueFault.TheVariants as fault
 then_known : {A B : Type 0} (r : Result A PathFlaw) (f : A → Result B PathFlaw) (x : A) → r ≡ Ok x → and_then r f ≡ f x
 then_known r f x is = ap (λ y. and_then y f) is
 
-then_same : {A : Type 0} (r : Result A PathFlaw) → and_then r (λ y. Ok y) ≡ r
-then_same (Ok x) = refl
-then_same (Err flaw) = refl
-
 then_then : {A B C : Type 0} (r : Result A PathFlaw) (f : A → Result B PathFlaw) (g : B → Result C PathFlaw) → and_then (and_then r f) g ≡ and_then r (λ y. and_then (f y) g)
 then_then (Ok x) f g = refl
 then_then (Err flaw) f g = refl
@@ -78,9 +74,6 @@ rebuilt_push (t ∷ steps) s x = ap (λ y. list_text (put_at t.elements.items t.
 pub record Stands (outer : List ℕ) (path : List (List ℕ)) (n : ℕ) (text : List ℕ) (steps : List Step) : Type 0 where
   pub goes : (x : List ℕ) → set_path 0 outer path x ≡ and_then (set_path n text (drop n path) x) (λ y. Ok (rebuilt steps y))
 
-pub stands_first : (outer : List ℕ) (path : List (List ℕ)) (steps : List Step) → steps ≡ [] → Stands outer path 0 outer steps
-stands_first outer path steps none = record { goes = λ x. sym (then_same (set_path 0 outer path x)) ∙ ap (λ ss. and_then (set_path 0 outer path x) (λ y. Ok (rebuilt ss y))) (sym none) }
-
 module _ (outer : List ℕ) (path : List (List ℕ)) (n : ℕ) (text : List ℕ) (steps : List Step) (within : n < length path) (so_far : Stands outer path n text steps) where
   here : (x : List ℕ) → set_path n text (drop n path) x ≡ set_path n text (get_or path n [] ∷ drop (n + 1) path) x
   here x = at_drop_more (λ ps. set_path n text ps x) path n [] within
@@ -101,9 +94,6 @@ module _ (outer : List ℕ) (path : List (List ℕ)) (n : ℕ) (text : List ℕ)
       let named : RefusesPath why (step n text (get_or path n [])) = subst (λ t. RefusesPath why (step n text t)) (is ∙ get_or_default path n i [] within) refused in
       subst (RefusesPath why) (sym (so_far.goes x))
       (then_refused why (set_path n text (drop n path) x) (λ y. Ok (rebuilt steps y)) (subst (RefusesPath why) (sym (here x)) (then_refused why (step n text (get_or path n [])) _ named)))
-
-pub stands_last : (outer : List ℕ) (path : List (List ℕ)) (n : ℕ) (text : List ℕ) (steps : List Step) → length path ≤ n → Stands outer path n text steps → (x : List ℕ) → set_path 0 outer path x ≡ Ok (rebuilt steps x)
-stands_last outer path n text steps past so_far x = so_far.goes x ∙ ap (λ r. and_then r (λ y. Ok (rebuilt steps y))) (at_drop_all (λ ps. set_path n text ps x) path n past)
 
 -- no element stands behind the last
 pub no_element : (bs : List ℕ) (ts : List (List ℕ)) (k : ℕ) → bs ≡ [] → length ts ≤ k → chars bs ≡ get_or ts k []

@@ -1,17 +1,11 @@
 -- What a call leaves of a store: which places have which texts, and which texts are made.
-use Rattle.std.specs.Prelude.{◌≡◌, ◌≢◌, ℕ, ◌+◌, ◌-◌, ◌<◌, ◌≤◌, List, [], ◌∷◌, ◌++◌, length, take, drop, IsSome, slice_set}
+use Rattle.std.specs.Prelude.{◌≡◌, ◌≢◌, ℕ, ◌+◌, ◌<◌, ◌≤◌, List, [], ◌∷◌, ◌++◌, length, IsSome, slice_set}
 use Rattle.std.specs.Ordering.{nat_cmp}
 use Rattle.std.specs.FinMap.{FinMap, get, insert}
 use Rattle.tclv_value.specs.declared.places.At.{At}
 use Rattle.tclv_value.specs.declared.places.At.TheVariants.{Stack, Cell}
+use Rattle.tclv_value.specs.Stacks.{under}
 use Rattle.tclv_value.specs.View.{View, IsMade, StaysMade}
-
--- the top n of a stack, from the lowest up, and those under them
-abbrev pub top : {X : Type 0} → ℕ → List X → List X
-top n stack = drop (length stack - n) stack
-
-abbrev pub under : {X : Type 0} → ℕ → List X → List X
-under n stack = take (length stack - n) stack
 
 -- The place is there, the stack has n texts, and the place is none of the top n.
 abbrev pub IsUnder : View → ℕ → At → Type 0

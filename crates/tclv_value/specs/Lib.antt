@@ -7,3 +7,5 @@ pub mod Paths
 pub mod Sequences
 pub mod View
 pub mod Places
+pub mod Stacks
+pub mod ListCommands

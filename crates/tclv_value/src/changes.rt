@@ -5,7 +5,8 @@ ghost use Rattle.tclv_text.specs.Texts.{IsText};
 ghost use Rattle.tclv_text.specs.Elements.{elements};
 ghost use Rattle.tclv_value.specs.declared.places.At.TheVariants.{Stack, Cell};
 ghost use Rattle.tclv_value.specs.View.{HasPlace, text_at, IsMade};
-ghost use Rattle.tclv_value.specs.Changes.{top, IsUnder, KeepsTexts, Pushes, Gathers, Puts};
+ghost use Rattle.tclv_value.specs.Stacks.{top};
+ghost use Rattle.tclv_value.specs.Changes.{IsUnder, KeepsTexts, Pushes, Gathers, Puts};
 ghost use Rattle.tclv_value.specs.Lists.{RefusesList};
 
 use crate::elements::elements_of;

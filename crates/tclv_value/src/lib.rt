@@ -17,6 +17,7 @@ mod changes;
 mod elements;
 mod faults;
 mod forms;
+pub mod laws;
 mod list_paths;
 mod lists;
 mod numbers;

@@ -6,7 +6,8 @@ ghost use Rattle.tclv_text.specs.Indices.{index};
 ghost use Rattle.tclv_text.specs.Quotes.{list_text};
 ghost use Rattle.tclv_value.specs.View.{text_at};
 ghost use Rattle.tclv_value.specs.declared.places.At.TheVariants.{Stack};
-ghost use Rattle.tclv_value.specs.Changes.{top, IsUnder, KeepsTexts, Puts};
+ghost use Rattle.tclv_value.specs.Stacks.{top};
+ghost use Rattle.tclv_value.specs.Changes.{IsUnder, KeepsTexts, Puts};
 ghost use Rattle.tclv_value.specs.Paths.{place_or, step, put_at, set_path, rebuilt, RefusesPath};
 
 use crate::elements::{add_element, add_elements, elements_of, list_bytes};

@@ -4,7 +4,8 @@ ghost use Rattle.std.specs.Result.{ForOk};
 ghost use Rattle.tclv_text.specs.Elements.{elements};
 ghost use Rattle.tclv_text.specs.Quotes.{list_text};
 ghost use Rattle.tclv_value.specs.View.{HasPlace, text_at, StaysMade};
-ghost use Rattle.tclv_value.specs.Changes.{top, IsUnder, KeepsTexts, Pushes, Gathers, Puts};
+ghost use Rattle.tclv_value.specs.Stacks.{top};
+ghost use Rattle.tclv_value.specs.Changes.{IsUnder, KeepsTexts, Pushes, Gathers, Puts};
 ghost use Rattle.tclv_value.specs.Lists.{RefusesList, replaced, part};
 
 use crate::elements::{add_elements, element_at, element_count, list_bytes};
