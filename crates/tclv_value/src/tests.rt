@@ -6,6 +6,8 @@ ghost use Rattle.tclv_text.specs.Texts.{IsText};
 ghost use Rattle.tclv_value.specs.View.{HasPlace};
 ghost use Rattle.tclv_value.specs.declared.places.At.TheVariants.{Stack, Cell};
 
+mod lists;
+
 use super::*;
 use tclv_parse::ParseFault;
 use tclv_text::{NoMemory, Stats};
