@@ -1,11 +1,13 @@
 -- What a caller knows of two variables by the store's contracts alone.
-use Rattle.std.proofs.Common.{◌≡◌, ◌≢◌, ◌-◌, ℕ, List, [], ◌∷◌, ◌++◌, length, get_or, cond, Option, Some, None, IsSome, is_some, refl, sym, ap, ◌∙◌, arith, nat_eq, true}
+use Rattle.std.proofs.Common.{◌≡◌, ◌≢◌, ◌-◌, ℕ, List, [], ◌∷◌, ◌++◌, length, get_or, cond, Option, Some, None, IsSome, is_some, refl, sym, ap, ◌∙◌, arith, nat_eq, true, Result, Ok, Err}
+use Rattle.std.specs.Prelude.{IsOkAnd}
 use Rattle.std.specs.Option.{unwrap_or}
 use Rattle.std.specs.Ordering.{nat_cmp}
 use Rattle.std.specs.Cmp.{nat_cmp_total, unsigned_ties}
 use Rattle.std.specs.FinMap.{FinMap, get, insert, get-insert}
 use Rattle.std.proofs.lemmas.List.{get_or_push, length_push}
 use Rattle.tclv_value.specs.View.{View, HasPlace, text_at}
+use Rattle.tclv_value.specs.Changes.{Puts}
 use Rattle.tclv_value.specs.declared.places.At.TheVariants.{Stack, Cell}
 use Rattle.tclv_value.proofs.CellLemmas.{not_same}
 
@@ -39,3 +41,8 @@ module _ (v0 v1 v2 v3 v4 : View) (from to : ℕ) (text : List ℕ) (apart : from
 -- a variable that was written is there
 pub put_there : (old new : FinMap nat_cmp (List ℕ)) (k : ℕ) (x : List ℕ) → new ≡ insert old k x → IsSome (get new k)
 put_there old new k x put = ap (λ m. is_some (get m k)) put ∙ ap is_some (get_put old k x)
+
+-- a variable that is not the one whose list changed
+pub beside : {T E : Type 0} (r : Result T E) (old new : View) (n one another : ℕ) (f : T → List ℕ) → another ≢ one → IsOkAnd r (λ x. Puts old n (Cell one) (f x) new) → get new.cells another ≡ get old.cells another
+beside (Ok x) old new n one another f apart puts = ap (λ m. get m another) puts.cells ∙ get_other old.cells one another (f x) apart
+beside (Err e) old new n one another f apart puts = absurd puts
