@@ -1,0 +1,66 @@
+-- Frames and namespaces: where a name is looked up, and which cell it stands for there.
+use Rattle.std.specs.Prelude.{ℕ, zero, suc, ◌+◌, ◌-◌, nat_lt, Bool, false, if◌then◌else◌, List, [], ◌∷◌, ◌++◌, length, take, slice_get, slice_set, Option}
+use Rattle.std.specs.Prelude.{refl}
+use Rattle.std.specs.Coded.{Coded, code_by, coded×, coded_ℕ, coded_bool, coded_list}
+use Rattle.std.specs.Option.{option_map_or, unwrap_or}
+use Rattle.std.specs.FinMap.{get, insert, empty}
+use Rattle.tclv_names.specs.Keyed.{Text, Named, Numbers, named_code, numbers_code}
+use Rattle.tclv_vars.specs.declared.parts.Slot.{Slot}
+use Rattle.tclv_vars.specs.declared.parts.Frame.{Frame}
+use Rattle.tclv_vars.specs.declared.places.Place.{Place}
+use Rattle.tclv_vars.specs.declared.places.Place.TheVariants as place
+use Rattle.tclv_vars.specs.declared.places.Home.{Home}
+use Rattle.tclv_vars.specs.declared.places.Home.TheVariants.{Local, Of}
+
+-- The frames in the order in which they were pushed, the number of the current one, and the names of each namespace by its number.
+pub record Scoping : Type 0 where
+  pub frames : List Frame
+  pub current : ℕ
+  pub spaces : Numbers (Named Slot)
+
+-- At the start there is the global frame alone: level 0, namespace 0, not local. No name is there.
+abbrev pub at_start : Scoping
+at_start = record { frames = record { level = 0; caller = 0; space = 0; local = false; names = empty } ∷ []; current = 0; spaces = empty }
+
+-- The names of a local frame are its own. Those of another frame are the names of its namespace.
+abbrev pub home_of : Scoping → ℕ → Home
+home_of s i = option_map_or (λ (f : Frame). if f.local then Local i else Of f.space) (slice_get s.frames i) (Local i)
+
+-- A name is looked up in the current frame, or in the namespace that is given.
+abbrev pub home : Scoping → Place → Home
+home s place.Frame = home_of s s.current
+home s (place.Space n) = Of n
+
+-- The names that are there. A namespace that never had one has none.
+abbrev pub names_in : Scoping → Home → Named Slot
+names_in s (Local i) = option_map_or (λ (f : Frame). f.names) (slice_get s.frames i) empty
+names_in s (Of n) = unwrap_or (get s.spaces n) empty
+
+-- What a name stands for there, if it is there.
+abbrev pub slot_of : Scoping → Home → Text → Option Slot
+slot_of s h name = get (names_in s h) name
+
+-- The frames, where the i-th has these names.
+abbrev pub name_frame : List Frame → ℕ → Named Slot → List Frame
+name_frame fs i ns = option_map_or (λ (f : Frame). slice_set fs i (record f { names = ns })) (slice_get fs i) fs
+
+-- All is as before, but these are the names there.
+abbrev pub with_names : Scoping → Home → Named Slot → Scoping
+with_names s (Local i) ns = record s { frames = name_frame s.frames i ns }
+with_names s (Of n) ns = record s { spaces = insert s.spaces n ns }
+
+-- All is as before, but the name stands for this there.
+abbrev pub with_name : Scoping → Home → Text → Slot → Scoping
+with_name s h name slot = with_names s h (insert (names_in s h) name slot)
+
+-- how values of these types are stored, for the models
+abbrev pub slot_code : Coded Slot
+slot_code = code_by (ℕ × Bool) (coded× coded_ℕ coded_bool) (λ s. (s.cell, s.own)) (λ p. record { cell = p.0; own = p.1 }) (λ _. refl)
+
+abbrev pub frame_code : Coded Frame
+frame_code = code_by (ℕ × (ℕ × (ℕ × (Bool × Named Slot)))) (coded× coded_ℕ (coded× coded_ℕ (coded× coded_ℕ (coded× coded_bool (named_code slot_code)))))
+    (λ f. (f.level, (f.caller, (f.space, (f.local, f.names))))) (λ p. record { level = p.0; caller = p.1.0; space = p.1.1.0; local = p.1.1.1.0; names = p.1.1.1.1 }) (λ _. refl)
+
+abbrev pub scoping_code : Coded Scoping
+scoping_code = code_by (List Frame × (ℕ × Numbers (Named Slot))) (coded× (coded_list frame_code) (coded× coded_ℕ (numbers_code (named_code slot_code))))
+    (λ s. (s.frames, (s.current, s.spaces))) (λ p. record { frames = p.0; current = p.1.0; spaces = p.1.1 }) (λ _. refl)

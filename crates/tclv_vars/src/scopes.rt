@@ -1,0 +1,136 @@
+// The frames, the namespaces and their names.
+
+use crate::parts::{Frame, Slot};
+use crate::places::{Home, Place};
+use std::alloc::Global;
+use std::marker::Model;
+use tclv_names::{Names, Numbered};
+use tclv_text::NoMemory;
+
+#[derive(Drop)]
+pub struct Scopes {
+    alloc: Global,
+    frames: Vec<Frame>,
+    current: usize,
+    spaces: Numbered<Names<Slot>>,
+}
+
+impl Model for Scopes {
+    ghost use Rattle.tclv_vars.specs.Scoping.{Scoping, scoping_code};
+
+    ghost Value = { Scoping };
+
+    ghost coded = { scoping_code };
+
+    ghost view = { λ a. record { frames = a.frames.items; current = a.current; spaces = a.spaces.map } };
+}
+
+impl Scopes {
+    ghost use Rattle.std.specs.Prelude.{◌≡◌, IfOk, OnOk, OnErr};
+    ghost use Rattle.tclv_vars.specs.Scoping.{at_start, home, home_of, slot_of, with_name};
+    ghost use Rattle.tclv_vars.specs.declared.places.Home.TheVariants.{Local, Of};
+
+    // The global frame alone.
+    pub fn new(alloc: Global) -> Result<Scopes, NoMemory>
+        ensures { IfOk result (λ s. s ≡ at_start) }
+    {
+        let mut frames = Vec::new(alloc);
+        let global = Frame {
+            level: 0,
+            caller: 0,
+            space: 0,
+            local: false,
+            names: Names::new(alloc),
+        };
+        let Ok(()) = frames.push(global) else {
+            return Err(NoMemory);
+        };
+        Ok(Scopes {
+            alloc,
+            frames,
+            current: 0,
+            spaces: Numbered::new(alloc),
+        })
+    }
+
+    pub fn home(&self, at: Place) -> Home
+        ensures { result ≡ home self.now at }
+    {
+        match at {
+            Place::Space(space) => Home::Of(space),
+            Place::Frame => self.home_of(self.current),
+        }
+    }
+
+    pub fn home_of(&self, frame: usize) -> Home
+        ensures { result ≡ home_of self.now frame }
+    {
+        match self.frames.get(frame) {
+            Some(f) => {
+                if f.local {
+                    Home::Local(frame)
+                } else {
+                    Home::Of(f.space)
+                }
+            }
+            None => Home::Local(frame),
+        }
+    }
+
+    // What the name stands for there.
+    #[tactic(auto, using(crate::proofs::MapLemmas::absent))]
+    pub fn slot(&self, home: Home, name: &[u8]) -> Option<Slot>
+        ensures { result ≡ slot_of self.now home name.now }
+    {
+        match home {
+            Home::Local(frame) => match self.frames.get(frame) {
+                Some(f) => f.names.get(name),
+                None => None,
+            },
+            Home::Of(space) => match self.spaces.get(space) {
+                Some(names) => names.get(name),
+                None => None,
+            },
+        }
+    }
+
+    // Makes the name stand for the slot's cell.
+    pub fn put(&mut self, home: Home, name: &[u8], slot: Slot) -> Result<(), NoMemory>
+        ensures put { OnOk result (self.new ≡ with_name self.old home name.now slot) }
+        ensures refused { OnErr result (self.new ≡ self.old) }
+    {
+        match home {
+            Home::Local(frame) => self.put_local(frame, name, slot),
+            Home::Of(space) => self.put_shared(space, name, slot),
+        }
+    }
+
+    fn put_local(&mut self, frame: usize, name: &[u8], slot: Slot) -> Result<(), NoMemory>
+        ensures put { OnOk result (self.new ≡ with_name self.old (Local frame) name.now slot) }
+        ensures refused { OnErr result (self.new ≡ self.old) }
+    {
+        let alloc = self.alloc;
+        let Some(f) = self.frames.get_mut(frame) else {
+            return Ok(());
+        };
+        f.names.put(alloc, name, slot)
+    }
+
+    fn put_shared(&mut self, space: u64, name: &[u8], slot: Slot) -> Result<(), NoMemory>
+        ensures put { OnOk result (self.new ≡ with_name self.old (Of space) name.now slot) }
+        ensures refused { OnErr result (self.new ≡ self.old) }
+    {
+        if self.spaces.get(space).is_some() {
+            let mut names = self.spaces.replace(space, Names::new(self.alloc));
+            let done = names.put(self.alloc, name, slot);
+            self.spaces.replace(space, names);
+            done?;
+            return Ok(());
+        }
+        self.spaces.reserve(1)?;
+        let mut names = Names::new(self.alloc);
+        names.put(self.alloc, name, slot)?;
+        self.spaces.put(space, names);
+        Ok(())
+    }
+}

@@ -1,0 +1,217 @@
+// Names, cells and arrays.
+
+use crate::faults::VarFault;
+use crate::parts::{Content, Slot};
+use crate::places::{Home, Place};
+use crate::scopes::Scopes;
+use std::alloc::Global;
+use tclv_names::{Names, Numbered};
+use tclv_text::NoMemory;
+
+#[derive(Drop)]
+pub struct Tables {
+    alloc: Global,
+    scopes: Scopes,
+    cells: Numbered<Content>,
+    next: u64,
+}
+
+impl Tables {
+    ghost use Rattle.std.specs.Prelude.{◌≡◌, ◌≤◌, ◌+◌, Ok, IfOk};
+    ghost use Rattle.std.specs.Option.{option_copied};
+    ghost use Rattle.std.specs.FinMap as map;
+    ghost use Rattle.tclv_vars.specs.Table.{table_of, no_variables, read, plain_at, read_element, locate, locate_element, set_cell, HoldsArray, elements_of, new_name, new_array, new_element, Gives, write};
+
+    pub fn new(alloc: Global) -> Result<Tables, NoMemory>
+        ensures { IfOk result (λ t. table_of t ≡ no_variables) }
+    {
+        let scopes = Scopes::new(alloc)?;
+        Ok(Tables {
+            alloc,
+            scopes,
+            cells: Numbered::new(alloc),
+            next: 0,
+        })
+    }
+
+    // The cell, where it is set to a value.
+    fn plain_at(&self, missing: VarFault, cell: u64) -> Result<u64, VarFault>
+        ensures { result ≡ plain_at missing (map.get self.now.cells.map cell) cell }
+    {
+        match self.cells.get(cell) {
+            None => Err(missing),
+            Some(Content::Plain) => Ok(cell),
+            Some(Content::Array(_)) => Err(VarFault::IsArray),
+        }
+    }
+
+    fn read_element(&self, cell: u64, index: &[u8]) -> Result<u64, VarFault>
+        ensures { result ≡ read_element self.now.cells.map (map.get self.now.cells.map cell) index.now }
+    {
+        match self.cells.get(cell) {
+            None => Err(VarFault::NoVariable),
+            Some(Content::Plain) => Err(VarFault::NotArray),
+            Some(Content::Array(elements)) => match elements.get(index) {
+                Some(element) => self.plain_at(VarFault::NoElement, element),
+                None => Err(VarFault::NoElement),
+            },
+        }
+    }
+
+    pub fn read(&self, at: Place, name: &[u8], index: Option<&[u8]>) -> Result<u64, VarFault>
+        ensures { result ≡ read (table_of self.now) at name.now (option_copied index.entry) }
+    {
+        let home = self.scopes.home(at);
+        match self.scopes.slot(home, name) {
+            None => Err(VarFault::NoVariable),
+            Some(slot) => match index {
+                None => self.plain_at(VarFault::NoVariable, slot.cell),
+                Some(i) => self.read_element(slot.cell, i),
+            },
+        }
+    }
+
+    // A name that isn't there gets the next cell.
+    fn add_name(&mut self, home: Home, name: &[u8]) -> Result<(u64, bool), VarFault>
+        ensures named { Gives (Ok (new_name (table_of self.old) home name.now)) (table_of self.old) result (table_of self.new) }
+        ensures room { self.new.cells.room ≡ self.old.cells.room }
+    {
+        let cell = self.next;
+        if cell == u64::MAX {
+            return Err(VarFault::NoMemory);
+        }
+        self.scopes.put(home, name, Slot { cell, own: true })?;
+        self.next = cell + 1;
+        Ok((cell, true))
+    }
+
+    // A name that isn't there gets an array with one element.
+    fn add_array(&mut self, home: Home, name: &[u8], index: &[u8]) -> Result<(u64, bool), VarFault>
+        requires room { 1 ≤ self.old.cells.room }
+        ensures named { Gives (Ok (new_array (table_of self.old) home name.now index.now)) (table_of self.old) result (table_of self.new) }
+        ensures room { self.old.cells.room ≤ self.new.cells.room + 1 }
+    {
+        let cell = self.next;
+        if cell >= u64::MAX - 1 {
+            return Err(VarFault::NoMemory);
+        }
+        let mut elements = Names::new(self.alloc);
+        elements.put(self.alloc, index, cell + 1)?;
+        self.scopes.put(home, name, Slot { cell, own: true })?;
+        self.cells.put(cell, Content::Array(elements));
+        self.next = cell + 2;
+        Ok((cell + 1, true))
+    }
+
+    // A cell that isn't set gets an array with one element.
+    fn begin_array(&mut self, cell: u64, index: &[u8]) -> Result<(u64, bool), VarFault>
+        requires room { 1 ≤ self.old.cells.room }
+        ensures made { Gives (Ok (new_element (table_of self.old) cell map.empty index.now)) (table_of self.old) result (table_of self.new) }
+        ensures room { self.old.cells.room ≤ self.new.cells.room + 1 }
+    {
+        let element = self.next;
+        if element == u64::MAX {
+            return Err(VarFault::NoMemory);
+        }
+        let mut elements = Names::new(self.alloc);
+        elements.put(self.alloc, index, element)?;
+        self.cells.put(cell, Content::Array(elements));
+        self.next = element + 1;
+        Ok((element, true))
+    }
+
+    // The array in the cell gets one more element.
+    fn grow_array(&mut self, cell: u64, index: &[u8]) -> Result<(u64, bool), VarFault>
+        requires array { HoldsArray (map.get self.old.cells.map cell) }
+        ensures made { Gives (Ok (new_element (table_of self.old) cell (elements_of (map.get self.old.cells.map cell)) index.now)) (table_of self.old) result (table_of self.new) }
+        ensures room { self.new.cells.room ≡ self.old.cells.room }
+    {
+        let element = self.next;
+        if element == u64::MAX {
+            return Err(VarFault::NoMemory);
+        }
+        let Content::Array(mut elements) = self.cells.replace(cell, Content::Plain) else {
+            unreachable!()
+        };
+        let done = elements.put(self.alloc, index, element);
+        self.cells.replace(cell, Content::Array(elements));
+        let Ok(()) = done else {
+            return Err(VarFault::NoMemory);
+        };
+        self.next = element + 1;
+        Ok((element, true))
+    }
+
+    // The cell of the element, which is made where there is none.
+    fn locate_element(&mut self, cell: u64, index: &[u8]) -> Result<(u64, bool), VarFault>
+        requires room { 1 ≤ self.old.cells.room }
+        ensures found { Gives (locate_element (table_of self.old) cell (map.get self.old.cells.map cell) index.now) (table_of self.old) result (table_of self.new) }
+        ensures room { self.old.cells.room ≤ self.new.cells.room + 1 }
+    {
+        match self.cells.get(cell) {
+            None => self.begin_array(cell, index),
+            Some(Content::Plain) => Err(VarFault::NotArray),
+            Some(Content::Array(elements)) => match elements.get(index) {
+                Some(element) => Ok((element, false)),
+                None => self.grow_array(cell, index),
+            },
+        }
+    }
+
+    // The cell of a name and an index, which is made where there is none.
+    fn locate(
+        &mut self,
+        home: Home,
+        name: &[u8],
+        index: Option<&[u8]>,
+    ) -> Result<(u64, bool), VarFault>
+        requires room { 1 ≤ self.old.cells.room }
+        ensures found { Gives (locate (table_of self.old) home name.now (option_copied index.entry)) (table_of self.old) result (table_of self.new) }
+        ensures room { self.old.cells.room ≤ self.new.cells.room + 1 }
+    {
+        match self.scopes.slot(home, name) {
+            None => match index {
+                None => self.add_name(home, name),
+                Some(i) => self.add_array(home, name, i),
+            },
+            Some(slot) => match index {
+                None => Ok((slot.cell, false)),
+                Some(i) => self.locate_element(slot.cell, i),
+            },
+        }
+    }
+
+    // The cell counts as set.
+    fn set(&mut self, cell: u64) -> Result<(u64, bool), VarFault>
+        requires room { 1 ≤ self.old.cells.room }
+        ensures set { Gives (set_cell (table_of self.old) cell (map.get self.old.cells.map cell)) (table_of self.old) result (table_of self.new) }
+    {
+        match self.cells.get(cell) {
+            None => {
+                self.cells.put(cell, Content::Plain);
+                Ok((cell, true))
+            }
+            Some(Content::Plain) => Ok((cell, false)),
+            Some(Content::Array(_)) => Err(VarFault::IsArray),
+        }
+    }
+
+    pub fn write(
+        &mut self,
+        at: Place,
+        name: &[u8],
+        index: Option<&[u8]>,
+    ) -> Result<(u64, bool), VarFault>
+        ensures written { Gives (write (table_of self.old) at name.now (option_copied index.entry)) (table_of self.old) result (table_of self.new) }
+    {
+        self.cells.reserve(2)?;
+        let home = self.scopes.home(at);
+        let (cell, fresh) = self.locate(home, name, index)?;
+        if fresh {
+            self.cells.put(cell, Content::Plain);
+            Ok((cell, true))
+        } else {
+            self.set(cell)
+        }
+    }
+}
