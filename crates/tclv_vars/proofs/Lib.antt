@@ -1,2 +1,5 @@
 pub mod MapLemmas
+pub mod ScopeLemmas
+pub mod SoundLemmas
+pub mod ValueLemmas
 pub mod AnswerLemmas

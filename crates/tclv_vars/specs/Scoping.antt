@@ -53,6 +53,44 @@ with_names s (Of n) ns = record s { spaces = insert s.spaces n ns }
 abbrev pub with_name : Scoping → Home → Text → Slot → Scoping
 with_name s h name slot = with_names s h (insert (names_in s h) name slot)
 
+-- Frames
+
+-- The level of the i-th frame.
+abbrev pub level_of : Scoping → ℕ → ℕ
+level_of s i = option_map_or (λ (f : Frame). f.level) (slice_get s.frames i) 0
+
+-- Its caller: the frame that was current when it was pushed.
+abbrev pub caller_of : Scoping → ℕ → ℕ
+caller_of s i = option_map_or (λ (f : Frame). f.caller) (slice_get s.frames i) 0
+
+-- Its namespace.
+abbrev pub space_of : Scoping → ℕ → ℕ
+space_of s i = option_map_or (λ (f : Frame). f.space) (slice_get s.frames i) 0
+
+-- Whether it is local.
+abbrev pub is_local_at : Scoping → ℕ → Bool
+is_local_at s i = option_map_or (λ (f : Frame). f.local) (slice_get s.frames i) false
+
+-- The frame that is k calls above the i-th: its caller's caller, and so on.
+abbrev pub above : Scoping → ℕ → ℕ → ℕ
+above s zero i = i
+above s (suc k) i = above s k (caller_of s i)
+
+-- A new frame is one level above the current one, which is its caller, and is current then.
+abbrev pub pushed : Scoping → ℕ → Bool → Scoping
+pushed s space local = record s {
+  frames = s.frames ++ record { level = level_of s s.current + 1; caller = s.current; space = space; local = local; names = empty } ∷ [];
+  current = length s.frames;
+}
+
+-- This frame is current.
+abbrev pub at_frame : Scoping → ℕ → Scoping
+at_frame s i = record s { current = i }
+
+-- Of the current frame and those that called it, the one of that level is current. Above the current level there is none.
+abbrev pub at_level : Scoping → ℕ → Scoping
+at_level s l = if nat_lt (level_of s s.current) l then s else at_frame s (above s (level_of s s.current - l) s.current)
+
 -- how values of these types are stored, for the models
 abbrev pub slot_code : Coded Slot
 slot_code = code_by (ℕ × Bool) (coded× coded_ℕ coded_bool) (λ s. (s.cell, s.own)) (λ p. record { cell = p.0; own = p.1 }) (λ _. refl)

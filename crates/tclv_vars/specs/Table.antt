@@ -12,7 +12,7 @@ use Rattle.tclv_vars.specs.declared.places.Home.{Home}
 use Rattle.tclv_vars.specs.declared.faults.VarFault.{VarFault}
 use Rattle.tclv_vars.specs.declared.faults.VarFault.TheVariants as fault
 use Rattle.tclv_vars.specs.declared.tables.Tables.{Tables}
-use Rattle.tclv_vars.specs.Scoping.{Scoping, home, slot_of, with_name, scoping_code, at_start}
+use Rattle.tclv_vars.specs.Scoping.{Scoping, home, slot_of, with_name, pushed, scoping_code, at_start}
 
 -- The frames and namespaces with their names, what each cell that is set holds, and the number that the next new cell gets.
 -- A cell that isn't in `contents` holds nothing.
@@ -125,6 +125,25 @@ set_spot t (Ok s) = if s.fresh then Ok (record s { after = plain s.after s.cell 
 -- The cell of a variable or of an element, which counts as set from then on. It is fresh where it wasn't set before.
 abbrev pub write : Table → Place → Text → Option Text → Result Spot VarFault
 write t at name index = set_spot t (locate t (home t.scopes at) name index)
+
+-- The frames and names change, and no cell does.
+abbrev pub at_scopes : Table → Scoping → Table
+at_scopes t s = record t { scopes = s }
+
+-- A frame is pushed.
+abbrev pub begun : Table → ℕ → Bool → Table
+begun t space local = at_scopes t (pushed t.scopes space local)
+
+-- What is set
+
+-- The cell holds a value, and no array.
+abbrev pub holds_value : Option Content → Bool
+holds_value None = false
+holds_value (Some Plain) = true
+holds_value (Some (Array es)) = false
+
+abbrev pub has_value : Table → ℕ → Bool
+has_value t c = holds_value (get t.contents c)
 
 -- Answers
 

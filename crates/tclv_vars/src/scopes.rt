@@ -26,8 +26,8 @@ impl Model for Scopes {
 }
 
 impl Scopes {
-    ghost use Rattle.std.specs.Prelude.{◌≡◌, IfOk, OnOk, OnErr};
-    ghost use Rattle.tclv_vars.specs.Scoping.{at_start, home, home_of, slot_of, with_name};
+    ghost use Rattle.std.specs.Prelude.{◌≡◌, ◌-◌, nat_lt, if◌then◌else◌, None, Some, IfOk, OnOk, OnErr};
+    ghost use Rattle.tclv_vars.specs.Scoping.{at_start, home, home_of, slot_of, with_name, level_of, caller_of, space_of, is_local_at, above, pushed, at_frame, at_level};
     ghost use Rattle.tclv_vars.specs.declared.places.Home.TheVariants.{Local, Of};
 
     // The global frame alone.
@@ -132,5 +132,107 @@ impl Scopes {
         names.put(self.alloc, name, slot)?;
         self.spaces.put(space, names);
         Ok(())
+    }
+
+    // The number of the current frame.
+    pub fn current(&self) -> usize
+        ensures { result ≡ self.now.current }
+    {
+        self.current
+    }
+
+    pub fn level(&self) -> usize
+        ensures { result ≡ level_of self.now self.now.current }
+    {
+        match self.frames.get(self.current) {
+            Some(f) => f.level,
+            None => 0,
+        }
+    }
+
+    pub fn space(&self) -> u64
+        ensures { result ≡ space_of self.now self.now.current }
+    {
+        match self.frames.get(self.current) {
+            Some(f) => f.space,
+            None => 0,
+        }
+    }
+
+    pub fn is_local(&self) -> bool
+        ensures { result ≡ is_local_at self.now self.now.current }
+    {
+        match self.frames.get(self.current) {
+            Some(f) => f.local,
+            None => false,
+        }
+    }
+
+    // A new frame, which is current then.
+    pub fn push(&mut self, space: u64, local: bool) -> Result<(), NoMemory>
+        ensures pushed { OnOk result (self.new ≡ pushed self.old space local) }
+        ensures refused { OnErr result (self.new ≡ self.old) }
+    {
+        let level = self.level();
+        if level == usize::MAX {
+            return Err(NoMemory);
+        }
+        let frame = Frame {
+            level: level + 1,
+            caller: self.current,
+            space,
+            local,
+            names: Names::new(self.alloc),
+        };
+        let number = self.frames.len();
+        let Ok(()) = self.frames.push(frame) else {
+            return Err(NoMemory);
+        };
+        self.current = number;
+        Ok(())
+    }
+
+    pub fn use_frame(&mut self, frame: usize)
+        ensures { self.new ≡ at_frame self.old frame }
+    {
+        self.current = frame;
+    }
+
+    // The frame that is so many calls above the current one.
+    #[tactic(auto, using(crate::proofs::ScopeLemmas::above_step))]
+    pub fn above(&self, calls: usize) -> usize
+        ensures { result ≡ above self.now calls self.now.current }
+    {
+        let mut frame = self.current;
+        let mut left = calls;
+        while left > 0 {
+            frame = self.caller_of(frame);
+            left -= 1;
+        }
+        frame
+    }
+
+    fn caller_of(&self, frame: usize) -> usize
+        ensures { result ≡ caller_of self.now frame }
+    {
+        match self.frames.get(frame) {
+            Some(f) => f.caller,
+            None => 0,
+        }
+    }
+
+    // Makes the frame of that level current, and gives the one that was.
+    pub fn use_level(&mut self, level: usize) -> Option<usize>
+        ensures old { result ≡ (if nat_lt (level_of self.old self.old.current) level then None else Some self.old.current) }
+        ensures current { self.new ≡ at_level self.old level }
+    {
+        let here = self.level();
+        if here < level {
+            return None;
+        }
+        let before = self.current;
+        let frame = self.above(here - level);
+        self.current = frame;
+        Some(before)
     }
 }

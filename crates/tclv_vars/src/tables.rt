@@ -17,10 +17,12 @@ pub struct Tables {
 }
 
 impl Tables {
-    ghost use Rattle.std.specs.Prelude.{◌≡◌, ◌≤◌, ◌+◌, Ok, IfOk};
+    ghost use Rattle.std.specs.Prelude.{◌≡◌, ◌≤◌, ◌+◌, nat_lt, if◌then◌else◌, Ok, Err, IfOk, OnOk, OnErr};
     ghost use Rattle.std.specs.Option.{option_copied};
     ghost use Rattle.std.specs.FinMap as map;
-    ghost use Rattle.tclv_vars.specs.Table.{table_of, no_variables, read, plain_at, read_element, locate, locate_element, set_cell, HoldsArray, elements_of, new_name, new_array, new_element, Gives, write};
+    ghost use Rattle.tclv_vars.specs.declared.faults.VarFault.TheVariants.{NoLevel};
+    ghost use Rattle.tclv_vars.specs.Scoping.{level_of, at_level, at_frame};
+    ghost use Rattle.tclv_vars.specs.Table.{table_of, at_scopes, begun, no_variables, read, plain_at, read_element, locate, locate_element, set_cell, HoldsArray, elements_of, new_name, new_array, new_element, Gives, write};
 
     pub fn new(alloc: Global) -> Result<Tables, NoMemory>
         ensures { IfOk result (λ t. table_of t ≡ no_variables) }
@@ -213,5 +215,34 @@ impl Tables {
         } else {
             self.set(cell)
         }
+    }
+
+    pub fn scopes(&self) -> &Scopes
+        ensures { result.now ≡ self.now.scopes }
+    {
+        &self.scopes
+    }
+
+    pub fn push_frame(&mut self, space: u64, local: bool) -> Result<(), NoMemory>
+        ensures pushed { OnOk result (table_of self.new ≡ begun (table_of self.old) space local) }
+        ensures refused { OnErr result (table_of self.new ≡ table_of self.old) }
+    {
+        self.scopes.push(space, local)
+    }
+
+    pub fn use_level(&mut self, level: usize) -> Result<usize, VarFault>
+        ensures answer { result ≡ (if nat_lt (level_of self.old.scopes self.old.scopes.current) level then Err NoLevel else Ok self.old.scopes.current) }
+        ensures current { table_of self.new ≡ at_scopes (table_of self.old) (at_level self.old.scopes level) }
+    {
+        match self.scopes.use_level(level) {
+            Some(before) => Ok(before),
+            None => Err(VarFault::NoLevel),
+        }
+    }
+
+    pub fn use_frame(&mut self, frame: usize)
+        ensures { table_of self.new ≡ at_scopes (table_of self.old) (at_frame self.old.scopes frame) }
+    {
+        self.scopes.use_frame(frame);
     }
 }

@@ -1,8 +1,10 @@
 // The variables of a run.
-ghost use Rattle.std.specs.Prelude.{◌≡◌, Ok, IfOk, IfErr, OnErr, IfSome};
+ghost use Rattle.std.specs.Prelude.{◌≡◌, ℕ, ◌<◌, ◌||◌, not, nat_eq, nat_lt, if◌then◌else◌, length, Ok, Err, IsTrue, IfOk, IfErr, OnOk, OnErr, IfSome};
 ghost use Rattle.std.specs.Option.{option_copied};
 ghost use Rattle.tclv_text.specs.Texts.{IsText};
-ghost use Rattle.tclv_vars.specs.Table.{no_variables, read, write, Refuses};
+ghost use Rattle.tclv_vars.specs.declared.faults.VarFault.TheVariants.{NoLevel};
+ghost use Rattle.tclv_vars.specs.Scoping.{level_of, space_of, is_local_at, at_level, at_frame};
+ghost use Rattle.tclv_vars.specs.Table.{no_variables, read, write, begun, at_scopes, has_value, Refuses};
 
 use crate::faults::VarFault;
 use crate::places::Place;
@@ -29,6 +31,10 @@ impl Model for Vars {
     ghost coded = { table_code };
 
     ghost view = { λ v. table_of v.tables };
+
+    ghost use Rattle.tclv_vars.specs.Sound.{Sound};
+
+    ghost invariant = { λ v. Sound (table_of v.tables) };
 }
 
 impl Vars {
@@ -48,6 +54,7 @@ impl Vars {
         requires name { IsText name.now }
         requires index { IfSome (option_copied index) IsText }
         ensures answer { result ≡ read self.now at name.now (option_copied index.entry) }
+        ensures value { IfOk result (λ c. IsTrue (has_value self.now c)) }
     {
         self.tables.read(at, name, index)
     }
@@ -68,7 +75,71 @@ impl Vars {
         ensures written { IfOk result (λ p. write self.old at name.now (option_copied index.entry) ≡ Ok (record { cell = p.0; fresh = p.1; after = self.new })) }
         ensures refused { IfErr result (Refuses (write self.old at name.now (option_copied index.entry))) }
         ensures same { OnErr result (self.new ≡ self.old) }
+        ensures value { IfOk result (λ p. (c : ℕ) → has_value self.new c ≡ (nat_eq c p.0 || has_value self.old c)) }
+        ensures fresh { IfOk result (λ p. p.1 ≡ not (has_value self.old p.0)) }
     {
         self.tables.write(at, name, index)
+    }
+
+    /// Pushes a frame, which is current then: of this namespace, and one level above the frame
+    /// that was current. A local one has names of its own, and another those of its namespace.
+    /// After `NoMemory` all is as before. Source: proc(n), namespace(n).
+    pub fn push_frame(&mut self, space: u64, local: bool) -> Result<(), NoMemory>
+        ensures pushed { OnOk result (self.new ≡ begun self.old space local) }
+        ensures refused { OnErr result (self.new ≡ self.old) }
+    {
+        self.tables.push_frame(space, local)
+    }
+
+    /// Makes the frame of that level current, of the current one and those that called it, and
+    /// gives the number of the frame that was current.
+    ///
+    /// `NoLevel` comes exactly where the level is above the current one, and nothing changes then.
+    /// Takes no memory. Source: uplevel(n).
+    pub fn use_level(&mut self, level: usize) -> Result<usize, VarFault>
+        ensures answer { result ≡ (if nat_lt (level_of self.old.scopes self.old.scopes.current) level then Err NoLevel else Ok self.old.scopes.current) }
+        ensures current { self.new ≡ at_scopes self.old (at_level self.old.scopes level) }
+        ensures level { OnOk result (level_of self.new.scopes self.new.scopes.current ≡ level) }
+        ensures back { IfOk result (λ frame. frame < length self.new.scopes.frames) }
+    {
+        self.tables.use_level(level)
+    }
+
+    /// Makes the frame of that number current, which is there. Takes no memory.
+    pub fn use_frame(&mut self, frame: usize)
+        requires there { frame < length self.old.scopes.frames }
+        ensures current { self.new ≡ at_scopes self.old (at_frame self.old.scopes frame) }
+    {
+        self.tables.use_frame(frame);
+    }
+
+    /// The level of the current frame, 0 for the global one. Source: info(n), level.
+    pub fn level(&self) -> usize
+        ensures answer { result ≡ level_of self.now.scopes self.now.scopes.current }
+    {
+        self.tables.scopes().level()
+    }
+
+    /// The number of the current frame: its place, from 0, among the frames that are there, in the
+    /// order in which they were pushed.
+    pub fn frame(&self) -> usize
+        ensures answer { result ≡ self.now.scopes.current }
+        ensures there { result < length self.now.scopes.frames }
+    {
+        self.tables.scopes().current()
+    }
+
+    /// The number of the current frame's namespace.
+    pub fn space(&self) -> u64
+        ensures answer { result ≡ space_of self.now.scopes self.now.scopes.current }
+    {
+        self.tables.scopes().space()
+    }
+
+    /// Whether the current frame is local.
+    pub fn is_local(&self) -> bool
+        ensures answer { result ≡ is_local_at self.now.scopes self.now.scopes.current }
+    {
+        self.tables.scopes().is_local()
     }
 }
