@@ -1,11 +1,11 @@
 -- Finite maps that are written twice, or as they were.
-use Rattle.std.proofs.Common.{◌≡◌, ℕ, Bool, true, false, cond, None, Some, refl, sym, ap, ◌∙◌, true≢false}
+use Rattle.std.proofs.Common.{◌≡◌, ◌≢◌, ℕ, Bool, true, false, cond, None, Some, refl, sym, ap, ◌∙◌, true≢false}
 use Rattle.std.specs.declared.cmp.Ordering.{Ordering}
 use Rattle.std.specs.declared.cmp.Ordering.TheVariants.{Less, Equal, Greater}
 use Rattle.std.specs.Ordering.{eq_by_cmp, is_eq}
 use Rattle.std.specs.Cmp.{IsTotalOrder, nat_cmp_total, eq_by_cmp_equiv}
 use Rattle.std.specs.Cmp.Lexicographic.{nat_list_cmp_total}
-use Rattle.std.specs.FinMap.{FinMap, IsAntisymmetric, get, insert, empty, get-insert, get-empty, same_map, nat_cmp-IsAntisymmetric, slice_cmp-IsAntisymmetric}
+use Rattle.std.specs.FinMap.{FinMap, IsAntisymmetric, get, insert, remove, empty, get-insert, get-remove, get-empty, same_map, nat_cmp-IsAntisymmetric, slice_cmp-IsAntisymmetric}
 use Rattle.std.specs.Prelude.{Result, Ok, Err, OnErr}
 use Rattle.tclv_names.specs.Keyed.{Text, by_text, Named, Numbers}
 
@@ -42,6 +42,19 @@ module _ {K : Type 0} {R : K → K → Ordering} (o : IsTotalOrder R) (only : Is
     | false ↦ λ t. refl
   ] refl)
 
+  pub inserted_other : {X : Type 0} (m : FinMap R X) (k : K) (x : X) (q : K) → q ≢ k → get (insert m k x) q ≡ get m q
+  inserted_other m k x q ne = get-insert o m k x q ∙ elim (eq_by_cmp R q k) as (λ b. eq_by_cmp R q k ≡ b → cond b (Some x) (get m q) ≡ get m q) [
+    | true ↦ λ t. absurd (ne (only q k (tied (R q k) t)))
+    | false ↦ λ t. refl
+  ] refl
+
+  pub removed_inserted : {X : Type 0} (m : FinMap R X) (k : K) (x : X) → get m k ≡ None → remove (insert m k x) k ≡ m
+  removed_inserted m k x none = same_map o only _ _ (λ q. get-remove o (insert m k x) k q ∙ ap (λ v. cond (eq_by_cmp R q k) None v) (get-insert o m k x q)
+      ∙ elim (eq_by_cmp R q k) as (λ b. eq_by_cmp R q k ≡ b → cond b None (cond b (Some x) (get m q)) ≡ get m q) [
+        | true ↦ λ t. sym (ap (get m) (only q k (tied (R q k) t)) ∙ none)
+        | false ↦ λ t. refl
+      ] refl)
+
 module _ {X : Type 0} (m : Numbers X) (n : ℕ) (x : X) where
   pub number_there : get (insert m n x) n ≡ Some x
   number_there = get_inserted nat_cmp_total nat_cmp-IsAntisymmetric m n x
@@ -52,6 +65,15 @@ module _ {X : Type 0} (m : Numbers X) (n : ℕ) (x : X) where
   pub number_same : get m n ≡ Some x → insert m n x ≡ m
   number_same = inserted_same nat_cmp_total nat_cmp-IsAntisymmetric m n x
 
+  pub number_other : (q : ℕ) → q ≢ n → get (insert m n x) q ≡ get m q
+  number_other = inserted_other nat_cmp_total nat_cmp-IsAntisymmetric m n x
+
+  pub number_removed : get m n ≡ None → remove (insert m n x) n ≡ m
+  number_removed = removed_inserted nat_cmp_total nat_cmp-IsAntisymmetric m n x
+
 module _ {X : Type 0} (m : Named X) (n : Text) (x : X) where
+  pub text_removed : get m n ≡ None → remove (insert m n x) n ≡ m
+  text_removed = removed_inserted nat_list_cmp_total (slice_cmp-IsAntisymmetric nat_cmp-IsAntisymmetric) m n x
+
   pub text_there : get (insert m n x) n ≡ Some x
   text_there = get_inserted nat_list_cmp_total (slice_cmp-IsAntisymmetric nat_cmp-IsAntisymmetric) m n x

@@ -1,9 +1,9 @@
 -- Frames and namespaces: where a name is looked up, and which cell it stands for there.
-use Rattle.std.specs.Prelude.{ℕ, zero, suc, ◌+◌, ◌-◌, nat_lt, Bool, false, if◌then◌else◌, List, [], ◌∷◌, ◌++◌, length, take, slice_get, slice_set, Option}
+use Rattle.std.specs.Prelude.{ℕ, zero, suc, ◌+◌, ◌-◌, nat_lt, Bool, true, false, if◌then◌else◌, List, [], ◌∷◌, ◌++◌, length, take, slice_get, slice_set, Option, None, Some, is_some}
 use Rattle.std.specs.Prelude.{refl}
 use Rattle.std.specs.Coded.{Coded, code_by, coded×, coded_ℕ, coded_bool, coded_list}
 use Rattle.std.specs.Option.{option_map_or, unwrap_or}
-use Rattle.std.specs.FinMap.{get, insert, empty}
+use Rattle.std.specs.FinMap.{get, insert, remove, empty}
 use Rattle.tclv_names.specs.Keyed.{Text, Named, Numbers, named_code, numbers_code}
 use Rattle.tclv_vars.specs.declared.parts.Slot.{Slot}
 use Rattle.tclv_vars.specs.declared.parts.Frame.{Frame}
@@ -52,6 +52,26 @@ with_names s (Of n) ns = record s { spaces = insert s.spaces n ns }
 -- All is as before, but the name stands for this there.
 abbrev pub with_name : Scoping → Home → Text → Slot → Scoping
 with_name s h name slot = with_names s h (insert (names_in s h) name slot)
+
+-- Whether any names are kept there. A namespace keeps none until it has its first name.
+abbrev pub has_names : Scoping → Home → Bool
+has_names s (Local i) = true
+has_names s (Of n) = is_some (get s.spaces n)
+
+-- The names of namespaces, where this one of namespace n is no more.
+abbrev pub without_shared : Numbers (Named Slot) → ℕ → Text → Option (Named Slot) → Numbers (Named Slot)
+without_shared spaces n name None = spaces
+without_shared spaces n name (Some ns) = insert spaces n (remove ns name)
+
+-- All is as before, but the name is no more there.
+abbrev pub without_name : Scoping → Home → Text → Scoping
+without_name s (Local i) name = record s { frames = name_frame s.frames i (remove (names_in s (Local i)) name) }
+without_name s (Of n) name = record s { spaces = without_shared s.spaces n name (get s.spaces n) }
+
+-- All is as before, but a namespace keeps no names.
+abbrev pub without_space : Scoping → Home → Scoping
+without_space s (Local i) = s
+without_space s (Of n) = record s { spaces = remove s.spaces n }
 
 -- Frames
 

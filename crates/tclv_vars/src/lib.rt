@@ -20,5 +20,5 @@ mod tables;
 mod variables;
 
 pub use faults::VarFault;
-pub use places::Place;
+pub use places::{Missing, Place};
 pub use variables::Vars;

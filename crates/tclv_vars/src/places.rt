@@ -1,4 +1,4 @@
-// Where a name is looked up.
+// Where a name is looked up, and how much of it is there.
 
 /// Where a name is looked up.
 #[derive(Clone, Copy, Debug, PartialEq, Eq)]
@@ -16,4 +16,19 @@ pub enum Home {
     Local(usize),
     /// In the namespace of this number.
     Of(u64),
+}
+
+/// What of a variable isn't there, so that a write makes it.
+#[derive(Clone, Copy, Debug, PartialEq, Eq)]
+pub enum Missing {
+    /// At most the value: the cell is there.
+    Value,
+    /// The element of an array that is there.
+    Element,
+    /// The array: the name is there, and isn't set.
+    Array,
+    /// The name.
+    Name,
+    /// The name, and every other one in its namespace.
+    Names,
 }

@@ -26,8 +26,9 @@ impl Model for Scopes {
 }
 
 impl Scopes {
-    ghost use Rattle.std.specs.Prelude.{◌≡◌, ◌-◌, nat_lt, if◌then◌else◌, None, Some, IfOk, OnOk, OnErr};
-    ghost use Rattle.tclv_vars.specs.Scoping.{at_start, home, home_of, slot_of, with_name, level_of, caller_of, space_of, is_local_at, above, pushed, at_frame, at_level};
+    ghost use Rattle.std.specs.Prelude.{◌≡◌, ◌-◌, nat_lt, if◌then◌else◌, None, Some, IsSome, IfOk, OnOk, OnErr};
+    ghost use Rattle.std.specs.FinMap as map;
+    ghost use Rattle.tclv_vars.specs.Scoping.{at_start, home, home_of, slot_of, with_name, has_names, without_name, without_space, level_of, caller_of, space_of, is_local_at, above, pushed, at_frame, at_level};
     ghost use Rattle.tclv_vars.specs.declared.places.Home.TheVariants.{Local, Of};
 
     // The global frame alone.
@@ -132,6 +133,65 @@ impl Scopes {
         names.put(self.alloc, name, slot)?;
         self.spaces.put(space, names);
         Ok(())
+    }
+
+    // Whether any names are kept there.
+    pub fn has_names(&self, home: Home) -> bool
+        ensures { result ≡ has_names self.now home }
+    {
+        match home {
+            Home::Local(_) => true,
+            Home::Of(space) => self.spaces.get(space).is_some(),
+        }
+    }
+
+    // Takes a name out.
+    pub fn take_name(&mut self, home: Home, name: &[u8])
+        ensures { self.new ≡ without_name self.old home name.now }
+    {
+        match home {
+            Home::Local(frame) => self.take_local(frame, name),
+            Home::Of(space) => self.take_shared(space, name),
+        }
+    }
+
+    fn take_local(&mut self, frame: usize, name: &[u8])
+        ensures { self.new ≡ without_name self.old (Local frame) name.now }
+    {
+        let Some(f) = self.frames.get_mut(frame) else {
+            return;
+        };
+        f.names.take_out(name);
+    }
+
+    fn take_shared(&mut self, space: u64, name: &[u8])
+        ensures { self.new ≡ without_name self.old (Of space) name.now }
+    {
+        match self.spaces.get(space) {
+            None => {}
+            Some(_) => self.cut_space(space, name),
+        }
+    }
+
+    fn cut_space(&mut self, space: u64, name: &[u8])
+        requires there { IsSome (map.get self.old.spaces space) }
+        ensures { self.new ≡ without_name self.old (Of space) name.now }
+    {
+        let mut names = self.spaces.replace(space, Names::new(self.alloc));
+        names.take_out(name);
+        self.spaces.replace(space, names);
+    }
+
+    // Takes a namespace out, with its names.
+    pub fn take_space(&mut self, home: Home)
+        ensures { self.new ≡ without_space self.old home }
+    {
+        match home {
+            Home::Local(_) => {}
+            Home::Of(space) => {
+                self.spaces.take_out(space);
+            }
+        }
     }
 
     // The number of the current frame.

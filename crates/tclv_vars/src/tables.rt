@@ -2,7 +2,7 @@
 
 use crate::faults::VarFault;
 use crate::parts::{Content, Slot};
-use crate::places::{Home, Place};
+use crate::places::{Home, Missing, Place};
 use crate::scopes::Scopes;
 use std::alloc::Global;
 use tclv_names::{Names, Numbered};
@@ -20,8 +20,9 @@ impl Tables {
     ghost use Rattle.std.specs.Prelude.{◌≡◌, ◌≤◌, ◌+◌, nat_lt, if◌then◌else◌, Ok, Err, IfOk, OnOk, OnErr};
     ghost use Rattle.std.specs.Option.{option_copied};
     ghost use Rattle.std.specs.FinMap as map;
+    ghost use Rattle.tclv_vars.specs.Undo.{missing, missing_element, last_dropped, emptied_element, without_index, without_element, emptied_slot, without_array, cells_dropped, undone};
     ghost use Rattle.tclv_vars.specs.declared.faults.VarFault.TheVariants.{NoLevel};
-    ghost use Rattle.tclv_vars.specs.Scoping.{level_of, at_level, at_frame};
+    ghost use Rattle.tclv_vars.specs.Scoping.{home, slot_of, level_of, at_level, at_frame};
     ghost use Rattle.tclv_vars.specs.Table.{table_of, at_scopes, begun, no_variables, read, plain_at, read_element, locate, locate_element, set_cell, HoldsArray, elements_of, new_name, new_array, new_element, Gives, write};
 
     pub fn new(alloc: Global) -> Result<Tables, NoMemory>
@@ -244,5 +245,156 @@ impl Tables {
         ensures { table_of self.new ≡ at_scopes (table_of self.old) (at_frame self.old.scopes frame) }
     {
         self.scopes.use_frame(frame);
+    }
+
+    fn missing_element(&self, cell: u64, index: &[u8]) -> Missing
+        ensures { result ≡ missing_element (map.get self.now.cells.map cell) index.now }
+    {
+        match self.cells.get(cell) {
+            None => Missing::Array,
+            Some(Content::Plain) => Missing::Value,
+            Some(Content::Array(elements)) => match elements.get(index) {
+                Some(_) => Missing::Value,
+                None => Missing::Element,
+            },
+        }
+    }
+
+    pub fn missing(&self, at: Place, name: &[u8], index: Option<&[u8]>) -> Missing
+        ensures { result ≡ missing (table_of self.now) at name.now (option_copied index.entry) }
+    {
+        let home = self.scopes.home(at);
+        match self.scopes.slot(home, name) {
+            None => {
+                if self.scopes.has_names(home) {
+                    Missing::Name
+                } else {
+                    Missing::Names
+                }
+            }
+            Some(slot) => match index {
+                None => Missing::Value,
+                Some(i) => self.missing_element(slot.cell, i),
+            },
+        }
+    }
+
+    // The cell that was given out last holds nothing, and its number is free.
+    fn drop_last(&mut self)
+        ensures { table_of self.new ≡ last_dropped (table_of self.old) }
+    {
+        let cell = self.next.saturating_sub(1);
+        self.cells.take_out(cell);
+        self.next = cell;
+    }
+
+    fn drop_cells(&mut self, index: Option<&[u8]>)
+        ensures { table_of self.new ≡ cells_dropped (table_of self.old) (option_copied index.entry) }
+    {
+        match index {
+            None => self.drop_last(),
+            Some(_) => {
+                self.drop_last();
+                self.drop_last();
+            }
+        }
+    }
+
+    fn empty_element(&mut self, cell: u64, index: &[u8])
+        ensures { table_of self.new ≡ emptied_element (table_of self.old) (map.get self.old.cells.map cell) index.now }
+    {
+        match self.cells.get(cell) {
+            None => {}
+            Some(Content::Plain) => {}
+            Some(Content::Array(elements)) => match elements.get(index) {
+                Some(element) => {
+                    self.cells.take_out(element);
+                }
+                None => {}
+            },
+        }
+    }
+
+    fn take_value(&mut self, home: Home, name: &[u8], index: Option<&[u8]>)
+        ensures { table_of self.new ≡ emptied_slot (table_of self.old) (slot_of self.old.scopes home name.now) (option_copied index.entry) }
+    {
+        match self.scopes.slot(home, name) {
+            None => {}
+            Some(slot) => match index {
+                None => {
+                    self.cells.take_out(slot.cell);
+                }
+                Some(i) => self.empty_element(slot.cell, i),
+            },
+        }
+    }
+
+    fn cut_array(&mut self, cell: u64, index: &[u8])
+        requires array { HoldsArray (map.get self.old.cells.map cell) }
+        ensures { table_of self.new ≡ without_index (table_of self.old) cell (map.get self.old.cells.map cell) index.now }
+    {
+        let Content::Array(mut elements) = self.cells.replace(cell, Content::Plain) else {
+            unreachable!()
+        };
+        elements.take_out(index);
+        self.cells.replace(cell, Content::Array(elements));
+    }
+
+    fn take_index(&mut self, cell: u64, index: &[u8])
+        ensures { table_of self.new ≡ without_index (table_of self.old) cell (map.get self.old.cells.map cell) index.now }
+    {
+        match self.cells.get(cell) {
+            None => {}
+            Some(Content::Plain) => {}
+            Some(Content::Array(_)) => self.cut_array(cell, index),
+        }
+    }
+
+    fn take_element(&mut self, home: Home, name: &[u8], index: Option<&[u8]>)
+        ensures { table_of self.new ≡ without_element (table_of self.old) (slot_of self.old.scopes home name.now) (option_copied index.entry) }
+    {
+        match self.scopes.slot(home, name) {
+            None => {}
+            Some(slot) => match index {
+                None => {}
+                Some(i) => self.take_index(slot.cell, i),
+            },
+        }
+    }
+
+    fn take_array(&mut self, home: Home, name: &[u8])
+        ensures { table_of self.new ≡ without_array (table_of self.old) (slot_of self.old.scopes home name.now) }
+    {
+        match self.scopes.slot(home, name) {
+            None => {}
+            Some(slot) => {
+                self.cells.take_out(slot.cell);
+            }
+        }
+    }
+
+    pub fn take_back(&mut self, at: Place, name: &[u8], index: Option<&[u8]>, missing: Missing)
+        ensures { table_of self.new ≡ undone missing (table_of self.old) (home self.old.scopes at) name.now (option_copied index.entry) }
+    {
+        let home = self.scopes.home(at);
+        match missing {
+            Missing::Value => self.take_value(home, name, index),
+            Missing::Element => {
+                self.drop_last();
+                self.take_element(home, name, index);
+            }
+            Missing::Array => {
+                self.drop_last();
+                self.take_array(home, name);
+            }
+            Missing::Name => {
+                self.scopes.take_name(home, name);
+                self.drop_cells(index);
+            }
+            Missing::Names => {
+                self.scopes.take_space(home);
+                self.drop_cells(index);
+            }
+        }
     }
 }

@@ -4,10 +4,12 @@ ghost use Rattle.std.specs.Option.{option_copied};
 ghost use Rattle.tclv_text.specs.Texts.{IsText};
 ghost use Rattle.tclv_vars.specs.declared.faults.VarFault.TheVariants.{NoLevel};
 ghost use Rattle.tclv_vars.specs.Scoping.{level_of, space_of, is_local_at, at_level, at_frame};
-ghost use Rattle.tclv_vars.specs.Table.{no_variables, read, write, begun, at_scopes, has_value, Refuses};
+ghost use Rattle.tclv_vars.specs.Sound.{Sound};
+ghost use Rattle.tclv_vars.specs.Undo.{missing, FreshWrite};
+ghost use Rattle.tclv_vars.specs.Table.{Table, no_variables, read, write, begun, at_scopes, has_value, Refuses};
 
 use crate::faults::VarFault;
-use crate::places::Place;
+use crate::places::{Missing, Place};
 use crate::tables::Tables;
 use std::alloc::Global;
 use std::marker::Model;
@@ -79,6 +81,29 @@ impl Vars {
         ensures fresh { IfOk result (λ p. p.1 ≡ not (has_value self.old p.0)) }
     {
         self.tables.write(at, name, index)
+    }
+
+    /// What of a variable or an element isn't there. It is what `take_back` wants to know of the
+    /// tables before the write. Takes no memory.
+    pub fn missing(&self, at: Place, name: &[u8], index: Option<&[u8]>) -> Missing
+        requires name { IsText name.now }
+        requires index { IfSome (option_copied index) IsText }
+        ensures answer { result ≡ missing self.now at name.now (option_copied index.entry) }
+        ensures sound { Sound self.now }
+    {
+        self.tables.missing(at, name, index)
+    }
+
+    /// Takes the last write back. It gave this variable, which wasn't set, its value, `lacked` was
+    /// missing then, and no call changed the variables since. All is as before that write: what it
+    /// made goes again, and so do the cells' numbers. Takes no memory.
+    pub fn take_back(&mut self, at: Place, name: &[u8], index: Option<&[u8]>, lacked: Missing)
+        requires name { IsText name.now }
+        requires index { IfSome (option_copied index) IsText }
+        requires wrote { (t : Table) × FreshWrite t at name.now (option_copied index) lacked self.old }
+        ensures before { (t : Table) → FreshWrite t at name.now (option_copied index.entry) lacked self.old → self.new ≡ t }
+    {
+        self.tables.take_back(at, name, index, lacked);
     }
 
     /// Pushes a frame, which is current then: of this namespace, and one level above the frame
