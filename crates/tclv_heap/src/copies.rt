@@ -6,7 +6,7 @@ ghost use Rattle.tclv_heap.specs.declared.ids.Object.{Object};
 ghost use Rattle.tclv_heap.specs.Stands.{Copies};
 
 use crate::ids::Object;
-use crate::table::Types;
+use crate::table::{Types, part};
 use slab::Slab;
 use std::alloc::Global;
 use tclv_text::{NoMemory, Text};
@@ -59,7 +59,7 @@ pub(crate) fn share_parts<T: Types>(
         return;
     };
     for k in 0..types.kid_count(form) {
-        let kid = types.kid(form, k);
+        let kid = part(types, form, k);
         let object = &mut objects[kid.0];
         object.count = object.count.saturating_add(1);
     }

@@ -5,7 +5,7 @@ ghost use Rattle.tclv_heap.specs.Graph.{at, count_in, form_parts, HasOutside, Ta
 ghost use Rattle.tclv_heap.specs.Dying.{Releases, Dying, Ready, Listed, DropsHolder};
 
 use crate::ids::{ObjId, Object};
-use crate::table::Types;
+use crate::table::{Types, part};
 use slab::Slab;
 
 /// Takes one outside holder from the object, and removes each object that has no holder then.
@@ -69,7 +69,7 @@ fn drop_parts<T: Types>(
 {
     let mut head = first;
     for k in 0..types.kid_count(form) {
-        let kid = types.kid(form, k);
+        let kid = part(types, form, k);
         head = drop_holder(objects, kid, head);
     }
     head

@@ -6,7 +6,7 @@ ghost use Rattle.tclv_heap.specs.Noted.{Noted, Untexted};
 
 use crate::ids::{ObjId, Object};
 use crate::kids::Kids;
-use crate::table::Types;
+use crate::table::{Types, part};
 use slab::Slab;
 use std::alloc::Global;
 use tclv_text::{NoMemory, Text};
@@ -83,7 +83,7 @@ fn kid_of<T: Types>(
     match &objects[id.0].form {
         Some(form) => {
             if k < types.kid_count(form) {
-                Some(types.kid(form, k))
+                Some(part(types, form, k))
             } else {
                 None
             }

@@ -5,3 +5,8 @@ pub mod GraphLemmas
 pub mod AnswerLemmas
 pub mod NumberLemmas
 pub mod CallerLemmas
+pub mod SignLemmas
+pub mod BraceLemmas
+pub mod BareLemmas
+pub mod SpellingLemmas
+pub mod CommandLemmas

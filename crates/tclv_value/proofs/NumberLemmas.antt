@@ -1,10 +1,9 @@
 -- Objects that are kept as numbers.
-use Rattle.std.proofs.Common.{◌≡◌, ℕ, ◌<◌, ℤ, inl, inr, List, set, length, Option, Some, None, Ok, IsSome, is_some, refl, sym, ap, subst, ◌∙◌, arith}
+use Rattle.std.proofs.Common.{◌≡◌, ℕ, ◌<◌, ℤ, inl, inr, List, [], set, length, Option, Some, None, Ok, IsSome, is_some, refl, sym, ap, subst, ◌∙◌, arith}
 use Rattle.std.specs.Prelude.{IfSome}
 use Rattle.std.proofs.lemmas.Bool.{cases_eq}
 use Rattle.std.proofs.lemmas.List.{get_or-set_same, get_or-set_other, get_or_past}
 use Rattle.tclv_text.specs.Numbers.{whole}
-use Rattle.tclv_text.proofs.NumbersBack.{whole_back}
 use Rattle.tclv_heap.specs.declared.ids.Object.{Object}
 use Rattle.tclv_heap.specs.Graph.{at, text_in, form_parts}
 use Rattle.tclv_heap.specs.Dying.{Releases}
@@ -30,7 +29,7 @@ pub form_number : (g : G) (o : ℕ) (n : ℤ) → HasForm form_table g o (Whole 
 form_number g o n h = by_text (text_in (at g o)) refl
   where
     by_text : (text : Option (List ℕ)) → text_in (at g o) ≡ text → whole (text_of g o) ≡ Ok n
-    by_text None is = let spelled = h.spells is in ap whole spelled.1 ∙ whole_back n spelled.0
+    by_text None is = let spelled = h.spells is in ap whole spelled.1 ∙ form_table.fits_spelled (Whole n) [] spelled.0
     by_text (Some s) is = ap whole (text_said g o s is) ∙ h.fits s is
 
 pub kept_number : (g : G) (o : ℕ) (f : Form) (r : Option ℤ) → HasForm form_table g o f → IfSome r (λ n. f ≡ Whole n) → IfSome r (λ n. whole (text_of g o) ≡ Ok n)

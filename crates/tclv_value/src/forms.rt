@@ -42,9 +42,9 @@ impl Types for Forms {
         }
     }
 
-    fn kid(&self, f: &Form, k: usize) -> ObjId {
+    fn kid(&self, f: &Form, k: usize) -> Option<ObjId> {
         match f {
-            Form::Whole(_) => unreachable!(),
+            Form::Whole(_) => None,
         }
     }
 

@@ -15,6 +15,7 @@
 
 mod faults;
 mod forms;
+pub mod laws;
 mod numbers;
 mod places;
 mod store;

@@ -25,11 +25,8 @@ impl Types for Links {
         if f.is_some() { 1 } else { 0 }
     }
 
-    fn kid(&self, f: &Option<ObjId>, k: usize) -> ObjId {
-        match *f {
-            Some(part) => part,
-            None => unreachable!(),
-        }
+    fn kid(&self, f: &Option<ObjId>, k: usize) -> Option<ObjId> {
+        if k == 0 { *f } else { None }
     }
 
     fn spells(&self, f: &Option<ObjId>) -> bool {
