@@ -1,6 +1,9 @@
 pub mod MapLemmas
+pub mod EntryLemmas
 pub mod ScopeLemmas
 pub mod SoundLemmas
 pub mod ValueLemmas
 pub mod UndoLemmas
+pub mod ClearLemmas
+pub mod TiedLemmas
 pub mod AnswerLemmas

@@ -18,7 +18,7 @@ use Rattle.tclv_vars.specs.declared.places.Home.{Home}
 use Rattle.tclv_vars.specs.declared.places.Home.TheVariants.{Local, Of}
 use Rattle.tclv_vars.specs.declared.places.Place.{Place}
 use Rattle.tclv_vars.specs.declared.places.Place.TheVariants as place
-use Rattle.tclv_vars.specs.Scoping.{Scoping, home, home_of, names_in, name_frame, with_names, with_name, slot_of, level_of, caller_of, above, pushed, at_frame, at_level}
+use Rattle.tclv_vars.specs.Scoping.{Scoping, home, home_of, names_in, name_frame, with_names, with_name, slot_of, level_of, caller_of, above, pushed, popped, at_frame, at_level}
 use Rattle.tclv_vars.specs.Sound.{IsNested}
 
 pub tied : (r : Ordering) → is_eq r ≡ true → r ≡ Equal
@@ -224,3 +224,52 @@ module _ (s : Scoping) (l : ℕ) (nested : IsNested s) where
 
   pub level_back : (r : Result ℕ VarFault) (new : Scoping) → r ≡ (if nat_lt (level_of s s.current) l then Err NoLevel else Ok s.current) → new ≡ at_level s l → IfOk r (λ frame. frame < length new.frames)
   level_back = back_by (nat_lt (level_of s s.current) l)
+
+length_taken : (fs : List Frame) (k : ℕ) → k ≤ length fs → length (take k fs) ≡ k
+length_taken [] zero h = refl
+length_taken [] (suc k) h = absurd (omega (arith, h))
+length_taken (f ∷ fs) zero h = refl
+length_taken (f ∷ fs) (suc k) h = ap suc (length_taken fs k (omega (arith, h)))
+
+read_taken : {A : Type 0} (f : Frame → A) (d : A) (fs : List Frame) (k j : ℕ) → j < k → read_at f d (take k fs) j ≡ read_at f d fs j
+read_taken f d [] zero j h = refl
+read_taken f d [] (suc k) j h = refl
+read_taken f d (g ∷ fs) zero j h = absurd (omega (arith, h))
+read_taken f d (g ∷ fs) (suc k) zero h = refl
+read_taken f d (g ∷ fs) (suc k) (suc j) h = read_taken f d fs k j (omega (arith, h))
+
+read_there : {A : Type 0} (f : Frame → A) (d e : A) (fs : List Frame) (j : ℕ) → j < length fs → read_at f d fs j ≡ read_at f e fs j
+read_there f d e [] j h = absurd (omega (arith, h))
+read_there f d e (g ∷ fs) zero h = refl
+read_there f d e (g ∷ fs) (suc j) h = read_there f d e fs j (omega (arith, h))
+
+-- the names of the frames where the last ones were taken off
+pub frame_taken : (fs : List Frame) (k j : ℕ) (m : Text) (o : Slot) → get (frame_names (take k fs) j) m ≡ Some o → get (frame_names fs j) m ≡ Some o
+frame_taken [] zero j m o h = h
+frame_taken [] (suc k) j m o h = h
+frame_taken (f ∷ fs) zero j m o h = none_some (sym (get-empty by_text m) ∙ h)
+frame_taken (f ∷ fs) (suc k) zero m o h = h
+frame_taken (f ∷ fs) (suc k) (suc j) m o h = frame_taken fs k j m o h
+
+pub IsNested-popped : (s : Scoping) → s.current + 1 ≡ length s.frames → 0 < s.current → IsNested s → IsNested (popped s)
+IsNested-popped s last inner n =
+    let o : Scoping = popped s in
+    let k = length s.frames - 1 in
+    let l : length o.frames ≡ k = length_taken s.frames k (omega arith) in
+    let e : k ≡ s.current = omega (arith, last) in
+    let levels = read_taken (λ (f : Frame). f.level) 0 s.frames k in
+    let callers = read_taken (λ (f : Frame). f.caller) 0 s.frames k in
+    let caller : o.current ≡ caller_of s k = read_there (λ (f : Frame). f.caller) s.current 0 s.frames k (omega (arith, e, last)) in
+    let below : caller_of s k < k = n.earlier k (omega (arith, e, inner)) (omega (arith, e, last)) in
+    let within : (i : ℕ) → i < length o.frames → i < k = λ i b. omega (arith, b, l) in
+    let more : (i : ℕ) → i < k → i < length s.frames = λ i b. omega (arith, b, e, last) in
+    record {
+      current = omega (arith, caller, below, l);
+      first = levels 0 (omega (arith, e, inner)) ∙ n.first;
+      global = read_taken (λ (f : Frame). if f.local then Local 0 else Of f.space) (Local 0) s.frames k 0 (omega (arith, e, inner)) ∙ n.global;
+      earlier = λ i p b. subst (λ c. c < i) (sym (callers i (within i b))) (n.earlier i p (more i (within i b)));
+      higher = λ i p b.
+          let a = within i b in
+          let d = n.earlier i p (more i a) in
+          levels i a ∙ n.higher i p (more i a) ∙ ap (λ c. c + 1) (sym (levels (caller_of s i) (omega (arith, d, a))) ∙ ap (level_of o) (sym (callers i a)));
+    }

@@ -111,6 +111,14 @@ at_frame s i = record s { current = i }
 abbrev pub at_level : Scoping → ℕ → Scoping
 at_level s l = if nat_lt (level_of s s.current) l then s else at_frame s (above s (level_of s s.current - l) s.current)
 
+-- The last frame is no more, and its caller is current.
+abbrev pub popped : Scoping → Scoping
+popped s = record s { frames = take (length s.frames - 1) s.frames; current = option_map_or (λ (f : Frame). f.caller) (slice_get s.frames (length s.frames - 1)) s.current }
+
+-- The names of the last frame.
+abbrev pub last_names : Scoping → Named Slot
+last_names s = option_map_or (λ (f : Frame). f.names) (slice_get s.frames (length s.frames - 1)) empty
+
 -- how values of these types are stored, for the models
 abbrev pub slot_code : Coded Slot
 slot_code = code_by (ℕ × Bool) (coded× coded_ℕ coded_bool) (λ s. (s.cell, s.own)) (λ p. record { cell = p.0; own = p.1 }) (λ _. refl)

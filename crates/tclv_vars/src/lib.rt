@@ -12,6 +12,7 @@
 //! - Names and indices are found in constant time, and that takes no memory.
 #![tactic(auto)]
 
+mod clearing;
 mod faults;
 mod parts;
 mod places;

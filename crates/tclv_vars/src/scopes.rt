@@ -26,9 +26,9 @@ impl Model for Scopes {
 }
 
 impl Scopes {
-    ghost use Rattle.std.specs.Prelude.{◌≡◌, ◌-◌, nat_lt, if◌then◌else◌, None, Some, IsSome, IfOk, OnOk, OnErr};
+    ghost use Rattle.std.specs.Prelude.{◌≡◌, ◌-◌, nat_lt, if◌then◌else◌, length, slice_get, None, Some, IsSome, IfOk, OnOk, OnErr};
     ghost use Rattle.std.specs.FinMap as map;
-    ghost use Rattle.tclv_vars.specs.Scoping.{at_start, home, home_of, slot_of, with_name, has_names, without_name, without_space, level_of, caller_of, space_of, is_local_at, above, pushed, at_frame, at_level};
+    ghost use Rattle.tclv_vars.specs.Scoping.{at_start, home, home_of, slot_of, with_name, has_names, without_name, without_space, level_of, caller_of, space_of, is_local_at, above, pushed, popped, last_names, at_frame, at_level};
     ghost use Rattle.tclv_vars.specs.declared.places.Home.TheVariants.{Local, Of};
 
     // The global frame alone.
@@ -250,6 +250,28 @@ impl Scopes {
         };
         self.current = number;
         Ok(())
+    }
+
+    fn pop(&mut self) -> Option<Frame>
+        ensures last { result ≡ slice_get self.old.frames (length self.old.frames - 1) }
+        ensures popped { self.new ≡ popped self.old }
+    {
+        let last = self.frames.pop();
+        if let Some(f) = &last {
+            self.current = f.caller;
+        }
+        last
+    }
+
+    // Takes the last frame off, and gives its names. Its caller is current then.
+    pub fn pop_names(&mut self) -> Names<Slot>
+        ensures names { result ≡ last_names self.old }
+        ensures popped { self.new ≡ popped self.old }
+    {
+        match self.pop() {
+            Some(frame) => frame.names,
+            None => Names::new(self.alloc),
+        }
     }
 
     pub fn use_frame(&mut self, frame: usize)

@@ -1,5 +1,6 @@
 // Names, cells and arrays.
 
+use crate::clearing::clear_names;
 use crate::faults::VarFault;
 use crate::parts::{Content, Slot};
 use crate::places::{Home, Missing, Place};
@@ -7,6 +8,7 @@ use crate::scopes::Scopes;
 use std::alloc::Global;
 use tclv_names::{Names, Numbered};
 use tclv_text::NoMemory;
+use tclv_value::Store;
 
 #[derive(Drop)]
 pub struct Tables {
@@ -20,9 +22,11 @@ impl Tables {
     ghost use Rattle.std.specs.Prelude.{◌≡◌, ◌≤◌, ◌+◌, nat_lt, if◌then◌else◌, Ok, Err, IfOk, OnOk, OnErr};
     ghost use Rattle.std.specs.Option.{option_copied};
     ghost use Rattle.std.specs.FinMap as map;
+    ghost use Rattle.tclv_value.specs.View.{KeepsMade};
+    ghost use Rattle.tclv_vars.specs.Clearing.{ended, without_names, Apart};
     ghost use Rattle.tclv_vars.specs.Undo.{missing, missing_element, last_dropped, emptied_element, without_index, without_element, emptied_slot, without_array, cells_dropped, undone};
     ghost use Rattle.tclv_vars.specs.declared.faults.VarFault.TheVariants.{NoLevel};
-    ghost use Rattle.tclv_vars.specs.Scoping.{home, slot_of, level_of, at_level, at_frame};
+    ghost use Rattle.tclv_vars.specs.Scoping.{home, slot_of, last_names, level_of, at_level, at_frame};
     ghost use Rattle.tclv_vars.specs.Table.{table_of, at_scopes, begun, no_variables, read, plain_at, read_element, locate, locate_element, set_cell, HoldsArray, elements_of, new_name, new_array, new_element, Gives, write};
 
     pub fn new(alloc: Global) -> Result<Tables, NoMemory>
@@ -229,6 +233,18 @@ impl Tables {
         ensures refused { OnErr result (table_of self.new ≡ table_of self.old) }
     {
         self.scopes.push(space, local)
+    }
+
+    // The last frame ends, with the cells of its own names.
+    pub fn pop_frame(&mut self, store: &mut Store)
+        requires apart { Apart self.old.cells.map (last_names self.old.scopes) }
+        ensures ended { table_of self.new ≡ ended (table_of self.old) }
+        ensures texts { store.new.cells ≡ without_names store.old.cells self.old.cells.map (last_names self.old.scopes) }
+        ensures stack { store.new.stack ≡ store.old.stack }
+        ensures keeps { KeepsMade store.old store.new }
+    {
+        let names = self.scopes.pop_names();
+        clear_names(&mut self.cells, store, names);
     }
 
     pub fn use_level(&mut self, level: usize) -> Result<usize, VarFault>

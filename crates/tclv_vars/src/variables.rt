@@ -1,9 +1,11 @@
 // The variables of a run.
-ghost use Rattle.std.specs.Prelude.{◌≡◌, ℕ, ◌<◌, ◌||◌, not, nat_eq, nat_lt, if◌then◌else◌, length, Ok, Err, IsTrue, IfOk, IfErr, OnOk, OnErr, IfSome};
+ghost use Rattle.std.specs.Prelude.{◌≡◌, ℕ, ◌+◌, ◌<◌, ◌||◌, not, nat_eq, nat_lt, if◌then◌else◌, length, Ok, Err, IsTrue, IfOk, IfErr, OnOk, OnErr, IfSome};
 ghost use Rattle.std.specs.Option.{option_copied};
 ghost use Rattle.tclv_text.specs.Texts.{IsText};
+ghost use Rattle.tclv_value.specs.View.{KeepsMade};
+ghost use Rattle.tclv_vars.specs.Clearing.{ended, without_names, Tied};
 ghost use Rattle.tclv_vars.specs.declared.faults.VarFault.TheVariants.{NoLevel};
-ghost use Rattle.tclv_vars.specs.Scoping.{level_of, space_of, is_local_at, at_level, at_frame};
+ghost use Rattle.tclv_vars.specs.Scoping.{last_names, level_of, space_of, is_local_at, at_level, at_frame};
 ghost use Rattle.tclv_vars.specs.Sound.{Sound};
 ghost use Rattle.tclv_vars.specs.Undo.{missing, FreshWrite};
 ghost use Rattle.tclv_vars.specs.Table.{Table, no_variables, read, write, begun, at_scopes, has_value, Refuses};
@@ -14,6 +16,7 @@ use crate::tables::Tables;
 use std::alloc::Global;
 use std::marker::Model;
 use tclv_text::NoMemory;
+use tclv_value::Store;
 
 /// The variables of a run, by frame and namespace: which cell each stands for, and whether it is set.
 ///
@@ -114,6 +117,21 @@ impl Vars {
         ensures refused { OnErr result (self.new ≡ self.old) }
     {
         self.tables.push_frame(space, local)
+    }
+
+    /// Takes off the frame that was pushed last, which is current and not the global one. Its caller
+    /// is current then. The cells of its own names go, with their texts, and so do those of the
+    /// elements of its arrays; a link's cell stays. Takes no memory. Source: proc(n), upvar(n).
+    pub fn pop_frame(&mut self, store: &mut Store)
+        requires last { self.old.scopes.current + 1 ≡ length self.old.scopes.frames }
+        requires inner { 0 < self.old.scopes.current }
+        ensures ended { self.new ≡ ended self.old }
+        ensures texts { store.new.cells ≡ without_names store.old.cells self.old.contents (last_names self.old.scopes) }
+        ensures stack { store.new.stack ≡ store.old.stack }
+        ensures keeps { KeepsMade store.old store.new }
+        ensures tied { Tied self.old store.old.cells → Tied self.new store.new.cells }
+    {
+        self.tables.pop_frame(store);
     }
 
     /// Makes the frame of that level current, of the current one and those that called it, and
