@@ -3,6 +3,7 @@ pub mod EntryLemmas
 pub mod ScopeLemmas
 pub mod SoundLemmas
 pub mod ValueLemmas
+pub mod FrameLemmas
 pub mod UndoLemmas
 pub mod ClearLemmas
 pub mod TiedLemmas

@@ -23,3 +23,6 @@ mod variables;
 pub use faults::VarFault;
 pub use places::{Missing, Place};
 pub use variables::Vars;
+
+#[cfg(test)]
+mod tests;

@@ -82,6 +82,8 @@ impl Vars {
         ensures same { OnErr result (self.new ≡ self.old) }
         ensures value { IfOk result (λ p. (c : ℕ) → has_value self.new c ≡ (nat_eq c p.0 || has_value self.old c)) }
         ensures fresh { IfOk result (λ p. p.1 ≡ not (has_value self.old p.0)) }
+        ensures current { self.new.scopes.current ≡ self.old.scopes.current }
+        ensures frames { length self.new.scopes.frames ≡ length self.old.scopes.frames }
     {
         self.tables.write(at, name, index)
     }
@@ -115,6 +117,8 @@ impl Vars {
     pub fn push_frame(&mut self, space: u64, local: bool) -> Result<(), NoMemory>
         ensures pushed { OnOk result (self.new ≡ begun self.old space local) }
         ensures refused { OnErr result (self.new ≡ self.old) }
+        ensures last { OnOk result (self.new.scopes.current + 1 ≡ length self.new.scopes.frames) }
+        ensures inner { OnOk result (0 < self.new.scopes.current) }
     {
         self.tables.push_frame(space, local)
     }
