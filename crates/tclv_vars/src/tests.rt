@@ -1,4 +1,4 @@
-// The rules of variables and frames by example, with memory to spare, and callers that know the
+// The rules of variables and frames by example, with memory to spare, and a caller that knows the
 // variables by their contracts alone.
 ghost use Rattle.std.specs.Prelude.{◌≡◌, IsTrue, IfOk};
 ghost use Rattle.tclv_text.specs.Texts.{IsText};
@@ -25,76 +25,110 @@ fn write_in_frame(vars: &mut Vars, store: &mut Store, name: &str) -> Result<u64,
     vars.push_frame(0, true)?;
     let written = vars.write(Place::Frame, name.as_bytes(), None);
     vars.pop_frame(store);
-    written.map(|cell| cell.0)
+    let (cell, _) = written?;
+    Ok(cell)
 }
 
-fn set(vars: &mut Vars, at: Place, name: &str) -> Result<(u64, bool), VarFault> {
-    vars.write(at, name.as_bytes(), None)
+fn set(vars: &mut Vars, name: &str, index: &str) -> Result<u64, VarFault> {
+    if index == "-" {
+        let (cell, _) = vars.write(Place::Frame, name.as_bytes(), None)?;
+        return Ok(cell);
+    }
+    let (cell, _) = vars.write(Place::Frame, name.as_bytes(), Some(index.as_bytes()))?;
+    Ok(cell)
 }
 
-fn set_element(vars: &mut Vars, name: &str, index: &str) -> Result<(u64, bool), VarFault> {
-    vars.write(Place::Frame, name.as_bytes(), Some(index.as_bytes()))
-}
-
-fn get(vars: &Vars, at: Place, name: &str) -> Result<u64, VarFault> {
-    vars.read(at, name.as_bytes(), None)
-}
-
-fn get_element(vars: &Vars, name: &str, index: &str) -> Result<u64, VarFault> {
+fn get(vars: &Vars, name: &str, index: &str) -> Result<u64, VarFault> {
+    if index == "-" {
+        return vars.read(Place::Frame, name.as_bytes(), None);
+    }
     vars.read(Place::Frame, name.as_bytes(), Some(index.as_bytes()))
+}
+
+fn word(fault: VarFault) -> &'static str {
+    match fault {
+        VarFault::NoVariable => "NoVariable",
+        VarFault::NoElement => "NoElement",
+        VarFault::IsArray => "IsArray",
+        VarFault::NotArray => "NotArray",
+        VarFault::LinkExists => "LinkExists",
+        VarFault::NoLevel => "NoLevel",
+        VarFault::NoMemory => "NoMemory",
+    }
+}
+
+// A row is a call, a name, an index or `-`, and the cell or the fault that is wanted.
+fn holds(vars: &mut Vars, row: &str) -> bool {
+    let mut words = row.split(' ');
+    let Some(call) = words.next() else {
+        return false;
+    };
+    let Some(name) = words.next() else {
+        return false;
+    };
+    let Some(index) = words.next() else {
+        return false;
+    };
+    let answer = if call == "set" {
+        set(vars, name, index)
+    } else {
+        get(vars, name, index)
+    };
+    let Some(want) = words.next() else {
+        return false;
+    };
+    match answer {
+        Ok(cell) => matches!(want.parse::<u64>(), Ok(wanted) if wanted == cell),
+        Err(fault) => word(fault) == want,
+    }
+}
+
+fn all_hold(vars: &mut Vars, rows: &str) -> bool {
+    for row in rows.split('|') {
+        if !holds(vars, row) {
+            return false;
+        }
+    }
+    true
 }
 
 #[test]
 fn variables_and_arrays(rt: HostRuntime) -> Result<(), VarFault> {
     let mut vars = Vars::new(rt.alloc())?;
-    assert_eq!(rt; get(&vars, Place::Frame, "v"), Err(VarFault::NoVariable));
-    assert_eq!(rt; set(&mut vars, Place::Frame, "v"), Ok((0, true)));
-    assert_eq!(rt; set(&mut vars, Place::Frame, "v"), Ok((0, false)));
-    assert_eq!(rt; get(&vars, Place::Space(0), "v"), Ok(0));
-    assert_eq!(rt; get_element(&vars, "v", "i"), Err(VarFault::NotArray));
-    assert_eq!(rt; set_element(&mut vars, "v", "i"), Err(VarFault::NotArray));
-    assert_eq!(rt; get_element(&vars, "a", "x y"), Err(VarFault::NoVariable));
-    assert_eq!(rt; set_element(&mut vars, "a", "x y"), Ok((2, true)));
-    assert_eq!(rt; get_element(&vars, "a", "x y"), Ok(2));
-    assert_eq!(rt; get_element(&vars, "a", "z"), Err(VarFault::NoElement));
-    assert_eq!(rt; get(&vars, Place::Frame, "a"), Err(VarFault::IsArray));
-    assert_eq!(rt; set(&mut vars, Place::Frame, "a"), Err(VarFault::IsArray));
+    let rows = "get v - NoVariable|set v - 0|set v - 0|get v - 0|get v i NotArray|set v i NotArray|\
+                get a x NoVariable|set a x 2|get a x 2|get a z NoElement|get a - IsArray|\
+                set a - IsArray|set a z 3|get a x 2|set w - 4";
+    assert!(rt; all_hold(&mut vars, rows));
     Ok(())
 }
 
 #[test]
 fn writes_are_taken_back(rt: HostRuntime) -> Result<(), VarFault> {
     let mut vars = Vars::new(rt.alloc())?;
-    assert_eq!(rt; try_out(&mut vars, "v".as_bytes()), Ok(true));
-    assert_eq!(rt; get(&vars, Place::Frame, "v"), Err(VarFault::NoVariable));
-    assert_eq!(rt; set(&mut vars, Place::Frame, "w"), Ok((0, true)));
-    assert_eq!(rt; try_out(&mut vars, "w".as_bytes()), Ok(false));
-    assert_eq!(rt; get(&vars, Place::Frame, "w"), Ok(0));
+    assert_eq!(rt; try_out(&mut vars, "v".as_bytes())?, true);
+    assert!(rt; all_hold(&mut vars, "get v - NoVariable|set w - 0"));
+    assert_eq!(rt; try_out(&mut vars, "w".as_bytes())?, false);
     Ok(())
 }
 
 #[test]
-fn frames_have_their_names(rt: HostRuntime) -> Result<(), VarFault> {
+fn local_names_end_with_their_frame(rt: HostRuntime) -> Result<(), VarFault> {
     let mut vars = Vars::new(rt.alloc())?;
     let mut store = Store::new(rt.alloc());
-    assert_eq!(rt; set(&mut vars, Place::Frame, "v"), Ok((0, true)));
-    assert_eq!(rt; write_in_frame(&mut vars, &mut store, "v"), Ok(1));
-    assert_eq!(rt; get(&vars, Place::Frame, "v"), Ok(0));
+    assert!(rt; all_hold(&mut vars, "set v - 0"));
+    assert_eq!(rt; write_in_frame(&mut vars, &mut store, "v")?, 1);
+    assert!(rt; all_hold(&mut vars, "get v - 0|set w - 2"));
+    Ok(())
+}
+
+#[test]
+fn a_frame_shows_its_namespace(rt: HostRuntime) -> Result<(), VarFault> {
+    let mut vars = Vars::new(rt.alloc())?;
     vars.push_frame(3, false)?;
-    assert_eq!(rt; get(&vars, Place::Frame, "v"), Err(VarFault::NoVariable));
-    assert_eq!(rt; set(&mut vars, Place::Frame, "v"), Ok((2, true)));
+    assert!(rt; all_hold(&mut vars, "set v - 0"));
     vars.push_frame(3, true)?;
-    assert_eq!(rt;
-        (vars.level(), vars.frame(), vars.space(), vars.is_local()),
-        (2, 2, 3, true)
-    );
-    assert_eq!(rt; get(&vars, Place::Frame, "v"), Err(VarFault::NoVariable));
-    assert_eq!(rt; get(&vars, Place::Space(3), "v"), Ok(2));
-    assert_eq!(rt; vars.use_level(3), Err(VarFault::NoLevel));
-    assert_eq!(rt; vars.use_level(1), Ok(2));
-    assert_eq!(rt; get(&vars, Place::Frame, "v"), Ok(2));
-    assert_eq!(rt; (vars.level(), vars.is_local()), (1, false));
-    assert_eq!(rt; vars.use_level(0), Ok(1));
-    assert_eq!(rt; get(&vars, Place::Frame, "v"), Ok(0));
+    assert!(rt; all_hold(&mut vars, "get v - NoVariable"));
+    assert_eq!(rt; vars.use_level(1)?, 2);
+    assert!(rt; all_hold(&mut vars, "get v - 0"));
     Ok(())
 }
