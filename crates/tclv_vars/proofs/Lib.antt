@@ -1,0 +1,10 @@
+pub mod MapLemmas
+pub mod EntryLemmas
+pub mod ScopeLemmas
+pub mod SoundLemmas
+pub mod ValueLemmas
+pub mod FrameLemmas
+pub mod UndoLemmas
+pub mod ClearLemmas
+pub mod TiedLemmas
+pub mod AnswerLemmas

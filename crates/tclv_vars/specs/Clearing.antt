@@ -1,0 +1,51 @@
+-- Cells that hold nothing any more: after an unset, and where names go with their cells.
+use Rattle.std.specs.Prelude.{◌≡◌, ℕ, ◌&&◌, ◌≢◌, Bool, true, false, not, nat_eq, is_some, List, [], ◌∷◌, Option, None, Some}
+use Rattle.std.specs.List.{list_any}
+use Rattle.std.specs.FinMap.{get, retain_keys}
+use Rattle.tclv_names.specs.Keyed.{Text, Named, Numbers, values_of}
+use Rattle.tclv_vars.specs.declared.parts.Slot.{Slot}
+use Rattle.tclv_vars.specs.declared.parts.Content.{Content}
+use Rattle.tclv_vars.specs.declared.parts.Content.TheVariants.{Plain, Array}
+use Rattle.tclv_vars.specs.Scoping.{popped, last_names}
+use Rattle.tclv_vars.specs.Table.{Table, has_value}
+
+-- The cells of an array's elements.
+abbrev pub elements : Option Content → List ℕ
+elements None = []
+elements (Some Plain) = []
+elements (Some (Array es)) = values_of es
+
+-- Where a cell is cleared, it holds nothing, and neither do the cells of its elements.
+abbrev pub freed : Numbers Content → ℕ → List ℕ
+freed cs c = c ∷ elements (get cs c)
+
+abbrev pub is_among : List ℕ → ℕ → Bool
+is_among cs k = list_any (nat_eq k) cs
+
+-- Nothing stands at these numbers.
+abbrev pub without : {X : Type 0} → Numbers X → List ℕ → Numbers X
+without m cs = retain_keys m (λ k. not (is_among cs k))
+
+-- Where a name goes, its own cell is cleared. A link clears nothing.
+abbrev pub frees : Numbers Content → ℕ → Slot → Bool
+frees cs q s = s.own && is_among (freed cs s.cell) q
+
+-- One of these names clears cell q.
+abbrev pub gone : Numbers Content → Named Slot → ℕ → Bool
+gone cs ns q = list_any (frees cs q) (values_of ns)
+
+-- Nothing stands at the numbers of the cells that these names clear, where the cells hold cs.
+abbrev pub without_names : {X : Type 0} → Numbers X → Numbers Content → Named Slot → Numbers X
+without_names m cs ns = retain_keys m (λ q. not (gone cs ns q))
+
+-- No name's own cell is that of another, nor that of another's element.
+abbrev pub Apart : Numbers Content → Named Slot → Type 0
+Apart cs ns = (n k : Text) (s o : Slot) → get ns n ≡ Some s → get ns k ≡ Some o → s.own ≡ true → o.own ≡ true → n ≢ k → is_among (freed cs s.cell) o.cell ≡ false
+
+-- The last frame ends, with the cells of its own names.
+abbrev pub ended : Table → Table
+ended t = record t { scopes = popped t.scopes; contents = without_names t.contents t.contents (last_names t.scopes) }
+
+-- Each cell that holds a value has a text here, and no other one has.
+abbrev pub Tied : {X : Type 0} → Table → Numbers X → Type 0
+Tied t texts = (c : ℕ) → is_some (get texts c) ≡ has_value t c
