@@ -1,12 +1,12 @@
 -- What is there and made after several calls of a store.
-use Rattle.std.proofs.Common.{◌≡◌, ◌≢◌, ℕ, ◌+◌, ◌-◌, ◌<◌, ◌≤◌, List, [], ◌∷◌, ◌++◌, length, take, drop, get_or, set, IsSome, Some, None, refl, sym, ap, subst, ◌∙◌, arith, inl, inr, Bool, true, false, Result, Ok, Err}
-use Rattle.std.specs.Prelude.{IsTrue, is_some, is_err, OnOk}
+use Rattle.std.proofs.Common.{◌≡◌, ◌≢◌, ℕ, ◌+◌, ◌-◌, List, [], ◌∷◌, ◌++◌, length, take, get_or, set, IsSome, refl, sym, ap, subst, ◌∙◌, arith, inl, inr, false, Result, Ok, Err}
+use Rattle.std.specs.Prelude.{is_err, OnOk}
 use Rattle.std.proofs.lemmas.Bool.{cases_eq}
 use Rattle.std.specs.FinMap.{get, insert}
 use Rattle.std.proofs.lemmas.List.{length_push, length-set, length-take-le, take_at, get_or_push, set-append_left}
 use Rattle.std.proofs.Math.Seq.{take-set-lt}
-use Rattle.tclv_value.specs.View.{View, HasPlace, text_at, made_at, IsMade, KeepsMade, KeepsMadeBut, StaysMade}
-use Rattle.tclv_value.specs.Changes.{IsUnder, stack_put, cells_put, Pushes, Puts}
+use Rattle.tclv_value.specs.View.{View, HasPlace, text_at, IsMade, KeepsMade, KeepsMadeBut}
+use Rattle.tclv_value.specs.Changes.{IsUnder, Pushes, Puts}
 use Rattle.tclv_value.specs.Stacks.{under}
 use Rattle.tclv_value.specs.declared.places.At.{At}
 use Rattle.tclv_value.specs.declared.places.At.TheVariants.{Stack, Cell}

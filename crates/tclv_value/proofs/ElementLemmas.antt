@@ -1,5 +1,5 @@
 -- Lists read from texts, and their texts written element by element.
-use Rattle.std.proofs.Common.{◌≡◌, ◌≢◌, ℕ, zero, suc, ◌+◌, ◌<◌, ◌≤◌, Bool, true, false, cond, not, List, [], ◌∷◌, ◌++◌, length, map, get_or, take, Option, Some, None, Result, Ok, Err, refl, sym, ap, subst, ◌∙◌, arith}
+use Rattle.std.proofs.Common.{◌≡◌, ◌≢◌, ℕ, ◌+◌, ◌<◌, ◌≤◌, Bool, true, false, cond, not, List, [], ◌∷◌, ◌++◌, length, map, get_or, take, Some, None, Result, Ok, refl, sym, ap, subst, ◌∙◌, arith}
 use Rattle.std.specs.Prelude.{IsOkAnd, slice_get, ◌&&◌, ◌||◌}
 use Rattle.std.specs.Str.{chars}
 use Rattle.std.proofs.lemmas.List.{append-nil, append_assoc, length-map, length-append, get_or_default, take_more, get_or-map}
@@ -7,7 +7,6 @@ use Rattle.std.proofs.lemmas.Option.{slice_get_past, slice_get-get_or}
 use Rattle.std.proofs.lemmas.Str.{encodes-chars, chars-append, chars-nil, IsUtf8-append, encode_ascii}
 use Rattle.tclv_text.specs.Texts.{IsText, AppendsText}
 use Rattle.tclv_text.specs.Lists.{ListFlaw}
-use Rattle.tclv_text.specs.Elements.{elements}
 use Rattle.tclv_text.specs.Quotes.{fits_braces, wants_braces, begins_marked, wants_backslashes, begins_comment, backslash_mark, with_mark, backslashed, backslashed_first, in_braces, quoted_some, quoted, further, list_text}
 use Rattle.tclv_text.specs.Spans.{IsFaultOf}
 use Rattle.tclv_text.specs.declared.lists.ListFault.{ListFault}

@@ -1,6 +1,6 @@
 -- Steps of a path, one after another, and the way back.
-use Rattle.std.proofs.Common.{◌≡◌, ℕ, zero, suc, ◌+◌, ◌-◌, ◌<◌, ◌≤◌, Bool, true, false, cond, List, [], ◌∷◌, ◌++◌, length, take, drop, get_or, Result, Ok, Err, refl, sym, ap, subst, ◌∙◌, arith}
-use Rattle.std.proofs.lemmas.List.{at_drop_more, at_drop_all, get_or_default, get_or_past}
+use Rattle.std.proofs.Common.{◌≡◌, ℕ, ◌+◌, ◌<◌, ◌≤◌, List, [], ◌∷◌, ◌++◌, length, drop, get_or, Result, Ok, Err, refl, sym, ap, subst, ◌∙◌}
+use Rattle.std.proofs.lemmas.List.{at_drop_more, get_or_default, get_or_past}
 use Rattle.std.specs.Str.{chars}
 use Rattle.std.proofs.lemmas.Str.{chars-encodes, scalars-chars, chars-nil}
 use lib.Utf8.{encodes}
@@ -12,7 +12,7 @@ use Rattle.tclv_text.specs.Quotes.{list_text}
 use Rattle.tclv_text.specs.declared.lists.ListFault.{ListFault}
 use Rattle.tclv_text.specs.declared.lists.ListFault.TheVariants.{OpenBrace, OpenQuote, AfterBrace, AfterQuote, NoMemory}
 use Rattle.tclv_value.specs.Lists.{IsNoList, RefusesList}
-use Rattle.tclv_value.specs.Paths.{PathFlaw, NoList, NoIndex, NoPlace, and_then, list_or, place_or, step, put_at, set_path, rebuilt, RefusesPath}
+use Rattle.tclv_value.specs.Paths.{PathFlaw, NoList, and_then, list_or, place_or, step, put_at, set_path, rebuilt, RefusesPath}
 use Rattle.tclv_value.specs.declared.list_paths.Step.{Step}
 use Rattle.tclv_value.specs.declared.faults.ValueFault.{ValueFault}
 use Rattle.tclv_value.specs.declared.faults.ValueFault.TheVariants as fault

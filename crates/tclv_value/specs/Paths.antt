@@ -1,7 +1,6 @@
 -- Lists inside lists: a path of indices, the first of which leads to an element of the outer list, the next to an element of that, and so on.
 use Rattle.std.specs.Prelude.{◌≡◌, ℕ, ◌+◌, nat_le, if◌then◌else◌, List, [], ◌∷◌, ◌++◌, length, take, drop, slice_index_or, Result, Ok, Err, ℤ, pos, negsuc}
 use Rattle.tclv_text.specs.declared.indices.IndexFault.{IndexFault}
-use Rattle.tclv_text.specs.declared.indices.IndexFault.TheVariants as index_fault
 use Rattle.tclv_text.specs.Lists.{ListFlaw}
 use Rattle.tclv_text.specs.Elements.{elements}
 use Rattle.tclv_text.specs.Quotes.{list_text}

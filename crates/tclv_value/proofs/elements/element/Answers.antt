@@ -1,4 +1,4 @@
-use Rattle.std.proofs.Common.{take, drop, ◌-◌, sym, ◌∙◌}
+use Rattle.std.proofs.Common.{sym, ◌∙◌}
 use Rattle.std.specs.Str.{chars}
 use Rattle.std.proofs.lemmas.Bool.{cond-false}
 use Rattle.tclv_text.specs.Escapes.{unescape}

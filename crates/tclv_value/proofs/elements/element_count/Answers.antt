@@ -1,4 +1,3 @@
-use Rattle.std.specs.Str.{chars}
 use Rattle.std.proofs.lemmas.Result.{err_from_is_err_and}
 use Rattle.tclv_value.proofs.ElementLemmas.{refuses_list}
 use Rattle.tclv_value.proofs.elements.element_count.Goals as goal
