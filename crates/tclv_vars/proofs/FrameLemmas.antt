@@ -1,5 +1,5 @@
 -- A write changes no frame but for its names.
-use Rattle.std.proofs.Common.{◌≡◌, ℕ, ◌+◌, ◌<◌, Bool, true, false, length, Option, None, Some, refl, sym, ap, subst, ◌∙◌, arith}
+use Rattle.std.proofs.Common.{◌≡◌, ℕ, ◌+◌, ◌<◌, Bool, true, false, length, Option, None, Some, refl, sym, subst, arith}
 use Rattle.std.specs.Prelude.{Result, Ok, Err, MatchResult, OnOk, if◌then◌else◌}
 use Rattle.std.specs.FinMap.{get, insert}
 use Rattle.tclv_names.specs.Keyed.{Text, Named}

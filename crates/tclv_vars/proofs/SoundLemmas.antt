@@ -1,5 +1,5 @@
 -- The tables stay sound.
-use Rattle.std.proofs.Common.{◌≡◌, ◌≢◌, ℕ, zero, suc, ◌+◌, ◌-◌, ◌<◌, ◌≤◌, Bool, true, false, cond, ◌⊎◌, inl, inr, is_some, true≢false, List, [], ◌∷◌, ◌++◌, length, Option, None, Some, refl, sym, ap, subst, ◌∙◌, nat_eq, arith, IfSome}
+use Rattle.std.proofs.Common.{◌≡◌, ◌≢◌, ℕ, zero, suc, ◌+◌, ◌-◌, ◌<◌, Bool, true, false, cond, ◌⊎◌, inl, inr, true≢false, length, Option, None, Some, refl, sym, ap, subst, ◌∙◌, arith, IfSome}
 use Rattle.std.specs.Prelude.{Result, Ok, Err, MatchResult, if◌then◌else◌, nat_lt}
 use Rattle.std.specs.Ordering.{nat_cmp, eq_by_cmp}
 use Rattle.std.specs.Cmp.{nat_cmp_total}
@@ -15,7 +15,7 @@ use Rattle.tclv_vars.specs.declared.places.Home.{Home}
 use Rattle.tclv_vars.specs.declared.places.Home.TheVariants.{Local, Of}
 use Rattle.tclv_vars.specs.declared.places.Place.{Place}
 use Rattle.tclv_vars.specs.declared.faults.VarFault.{VarFault}
-use Rattle.tclv_vars.specs.Scoping.{Scoping, names_in, with_name, slot_of, home, pushed, at_start, at_frame, at_level, level_of, above}
+use Rattle.tclv_vars.specs.Scoping.{Scoping, names_in, slot_of, home, pushed, at_start, at_frame, at_level, level_of, above}
 use Rattle.tclv_vars.specs.Table.{Table, no_variables, Spot, new_name, new_array, named, new_element, locate_in, locate_element, locate_slot, locate, set_cell, set_spot, write, at_scopes, plain, elements_of, Gives}
 use Rattle.tclv_vars.specs.Sound.{Sound, IsNested}
 use Rattle.tclv_vars.proofs.ScopeLemmas.{tied, same_some, none_some, slot_cases, frame_end, IsNested-with_names, IsNested-at_frame, IsNested-pushed, above_level}

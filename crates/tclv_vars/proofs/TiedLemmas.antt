@@ -1,5 +1,5 @@
 -- The tables and the texts, where cells are cleared.
-use Rattle.std.proofs.Common.{◌≡◌, ◌≢◌, ℕ, ◌+◌, ◌-◌, ◌<◌, Bool, true, false, cond, not, ◌||◌, true≢false, is_some, List, [], ◌∷◌, length, Option, None, Some, refl, sym, ap, subst, ◌∙◌, nat_eq}
+use Rattle.std.proofs.Common.{◌≡◌, ◌≢◌, ℕ, ◌+◌, ◌-◌, ◌<◌, Bool, true, false, cond, not, ◌||◌, is_some, List, [], ◌∷◌, length, Option, None, Some, refl, sym, ap, ◌∙◌, nat_eq}
 use Rattle.std.specs.Ordering.{nat_cmp}
 use Rattle.std.specs.Cmp.{unsigned_ties}
 use Rattle.std.specs.List.{list_any}
@@ -11,8 +11,8 @@ use Rattle.tclv_vars.specs.declared.parts.Content.TheVariants.{Plain, Array}
 use Rattle.tclv_vars.specs.declared.places.Home.{Home}
 use Rattle.tclv_vars.specs.declared.places.Home.TheVariants.{Local, Of}
 use Rattle.tclv_vars.specs.Scoping.{popped, last_names, slot_of}
-use Rattle.tclv_vars.specs.Table.{Table, at_scopes, holds_value, has_value}
-use Rattle.tclv_vars.specs.Clearing.{elements, freed, is_among, gone, without_names, Apart, ended, Tied}
+use Rattle.tclv_vars.specs.Table.{Table, at_scopes, holds_value}
+use Rattle.tclv_vars.specs.Clearing.{elements, gone, without_names, Apart, ended, Tied}
 use Rattle.tclv_vars.specs.Sound.{Sound}
 use Rattle.tclv_vars.proofs.EntryLemmas.{any_agrees}
 use Rattle.tclv_vars.proofs.ScopeLemmas.{tied, none_some, frame_taken, IsNested-popped}

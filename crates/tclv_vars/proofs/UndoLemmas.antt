@@ -1,7 +1,7 @@
 -- What a write made is taken away again.
-use Rattle.std.proofs.Common.{◌≡◌, ◌≢◌, ℕ, zero, suc, ◌+◌, ◌-◌, ◌<◌, ◌≤◌, Bool, true, false, is_some, true≢false, List, [], ◌∷◌, length, slice_get, Option, None, Some, refl, sym, ap, subst, ◌∙◌, arith}
+use Rattle.std.proofs.Common.{◌≡◌, ◌≢◌, ℕ, zero, suc, ◌+◌, ◌-◌, Bool, true, false, is_some, true≢false, List, [], ◌∷◌, Option, None, Some, refl, sym, ap, subst, ◌∙◌, arith}
 use Rattle.std.specs.Prelude.{Result, Ok, Err, MatchResult, if◌then◌else◌}
-use Rattle.std.specs.Option.{option_map_or, unwrap_or}
+use Rattle.std.specs.Option.{unwrap_or}
 use Rattle.std.specs.FinMap.{get, insert, remove, empty}
 use Rattle.tclv_names.specs.Keyed.{Text, Named, Numbers}
 use Rattle.tclv_vars.specs.declared.parts.Slot.{Slot}
@@ -15,7 +15,7 @@ use Rattle.tclv_vars.specs.declared.places.Missing.{Missing}
 use Rattle.tclv_vars.specs.declared.places.Missing.TheVariants as lacks
 use Rattle.tclv_vars.specs.declared.faults.VarFault.{VarFault}
 use Rattle.tclv_vars.specs.Scoping.{Scoping, home, names_in, name_frame, with_name, without_name, without_space, without_shared, has_names, slot_of}
-use Rattle.tclv_vars.specs.Table.{Table, Spot, locate_in, locate_element, locate_slot, set_cell, set_spot, write, plain}
+use Rattle.tclv_vars.specs.Table.{Table, Spot, locate_in, locate_element, locate_slot, set_cell, set_spot, plain}
 use Rattle.tclv_vars.specs.Undo.{undone, missing, missing_in, missing_element, missing_slot, FreshWrite, emptied_element, emptied_in, emptied_slot, without_element, without_index, without_array, last_dropped}
 use Rattle.tclv_vars.specs.Sound.{Sound}
 use Rattle.tclv_vars.proofs.MapLemmas.{number_there, number_again, number_same, number_other, number_removed, text_removed}

@@ -1,7 +1,7 @@
 -- Taking a write back.
 use Rattle.std.specs.Prelude.{◌≡◌, ℕ, ◌-◌, true, if◌then◌else◌, Option, None, Some, Ok}
 use Rattle.std.specs.FinMap.{get, insert, remove}
-use Rattle.tclv_names.specs.Keyed.{Text, Numbers}
+use Rattle.tclv_names.specs.Keyed.{Text}
 use Rattle.tclv_vars.specs.declared.parts.Slot.{Slot}
 use Rattle.tclv_vars.specs.declared.parts.Content.{Content}
 use Rattle.tclv_vars.specs.declared.parts.Content.TheVariants.{Plain, Array}

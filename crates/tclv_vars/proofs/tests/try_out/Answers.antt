@@ -1,8 +1,5 @@
-use Rattle.std.proofs.Common.{None, ap, ◌∙◌}
+use Rattle.std.proofs.Common.{ap, ◌∙◌}
 use Rattle.std.specs.Prelude.{Ok}
-use Rattle.tclv_vars.specs.declared.places.Place.TheVariants.{Frame}
-use Rattle.tclv_vars.specs.Table.{Spot}
-use Rattle.tclv_vars.specs.Undo.{FreshWrite}
 use Rattle.tclv_vars.proofs.tests.try_out.Goals as goal
 
 pub take_back-requires-clause-wrote : goal.take_back-requires-clause-wrote

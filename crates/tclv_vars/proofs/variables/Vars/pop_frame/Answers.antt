@@ -1,7 +1,7 @@
-use Rattle.std.proofs.Common.{◌≡◌, ◌+◌, ◌<◌, length, sym, ap, subst, ◌∙◌}
+use Rattle.std.proofs.Common.{◌≡◌, ◌+◌, ◌<◌, length, sym, ap, subst}
 use Rattle.tclv_vars.specs.Scoping.{last_names}
 use Rattle.tclv_vars.specs.Table.{Table, table_of}
-use Rattle.tclv_vars.specs.Clearing.{ended, Tied}
+use Rattle.tclv_vars.specs.Clearing.{Tied}
 use Rattle.tclv_vars.specs.Sound.{Sound}
 use Rattle.tclv_vars.proofs.TiedLemmas.{Apart-last, Sound-ended, Tied-names}
 use Rattle.tclv_vars.proofs.variables.Vars.pop_frame.Goals as goal
