@@ -3,3 +3,9 @@ pub mod PowerLemmas
 pub mod ShiftLemmas
 pub mod FunctionLemmas
 pub mod FrontLemmas
+pub mod ScriptShrinks
+pub mod Shrinks
+pub mod Chains
+pub mod Nesting
+pub mod After
+pub mod Starts

@@ -24,10 +24,11 @@ use tclv_text::Cursor;
 const MAX_ROOM: usize = 101;
 
 /// An operator of this row behind white space, which is passed over with it.
-#[tactic(auto, unfolding(crate::specs::ExpressionGrammar::behind_blanks))]
+#[tactic(auto, unfolding(crate::specs::ExpressionGrammar::behind_blanks), using(crate::proofs::FrontLemmas::drops))]
 fn next_at(level: u8, cursor: &mut Cursor<'_>) -> Option<Infix>
     ensures op { result ≡ at_level level (blanks cursor.old) }
     ensures rest { cursor.new ≡ spec.behind_blanks result cursor.old }
+    ensures left { length cursor.new ≤ length cursor.old }
 {
     let mut next = cursor.here();
     blanks(&mut next);
@@ -42,10 +43,11 @@ fn next_at(level: u8, cursor: &mut Cursor<'_>) -> Option<Infix>
 }
 
 /// Goes past white space and this character, if it comes next.
-#[tactic(auto, unfolding(crate::specs::ExpressionGrammar::behind_mark))]
+#[tactic(auto, unfolding(crate::specs::ExpressionGrammar::behind_mark), using(crate::proofs::FrontLemmas::drops))]
 fn comes(mark: char, cursor: &mut Cursor<'_>) -> bool
     ensures found { result ≡ (first (blanks cursor.old) == mark) }
     ensures rest { cursor.new ≡ spec.behind_mark mark cursor.old }
+    ensures left { length cursor.new ≤ length cursor.old }
 {
     let mut next = cursor.here();
     blanks(&mut next);
@@ -79,7 +81,7 @@ impl ExprReader {
     }
 
     /// The closing parenthesis behind an expression.
-    #[tactic(auto, unfolding(crate::specs::ExpressionGrammar::closed))]
+    #[tactic(auto, unfolding(crate::specs::ExpressionGrammar::closed), using(crate::proofs::FrontLemmas::drops))]
     fn closed(&self, tree: ExprTree, cursor: &mut Cursor<'_>) -> Result<ExprTree, Stop>
         ensures reads { Reads (spec.closed self.now.leaves.total tree cursor.old) result cursor.new }
         ensures left { OnOk result (length cursor.new ≤ length cursor.old) }

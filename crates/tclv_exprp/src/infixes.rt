@@ -192,9 +192,10 @@ pub(crate) fn at_level(level: u8, cursor: &Cursor<'_>) -> Option<Infix>
 }
 
 /// Goes past an operator.
-#[tactic(auto, unfolding(crate::specs::Infixes::behind))]
+#[tactic(auto, unfolding(crate::specs::Infixes::behind), using(crate::proofs::FrontLemmas::drops))]
 pub(crate) fn pass_operator(op: Infix, cursor: &mut Cursor<'_>)
-    ensures { cursor.new ≡ spec.behind op cursor.old }
+    ensures rest { cursor.new ≡ spec.behind op cursor.old }
+    ensures left { length cursor.new ≤ length cursor.old }
 {
     cursor.skip();
     if !is_single(op) {
