@@ -219,12 +219,6 @@ pub(crate) fn half_len(cursor: &Cursor<'_>) -> usize
     let c = first(cursor);
     match word_of(c, second(cursor)) {
         Some(_) => 2,
-        None => {
-            if is_half(c) {
-                1
-            } else {
-                0
-            }
-        }
+        None => { if is_half(c) { 1 } else { 0 } }
     }
 }

@@ -9,12 +9,11 @@ ghost use Rattle.tclv_parse.specs.Grammar.{place};
 ghost use Rattle.tclv_exprp.specs.Outcomes.{Reads, leaf_fault, leaf_stop};
 ghost use Rattle.tclv_exprp.specs.ExpressionGrammar as spec;
 
-use crate::ExprTree;
 use crate::faults::{Fault, Stop};
 use crate::fronts::{pass, pass_sign, take_text};
 use crate::numerals::{floating_len, lacks_digits, whole_len};
 use crate::tree::part_alone;
-use crate::{infixes, operands};
+use crate::{ExprTree, infixes, operands};
 use sqlite_items::Boxed;
 use std::alloc::Global;
 use tclv_parse::{Form, ParseFault, Part, Reader, braced};
@@ -176,7 +175,13 @@ impl Leaves {
 
     /// A word of so many bytes at this place that is no function's name.
     #[tactic(auto, unfolding(crate::specs::ExpressionGrammar::word))]
-    pub(crate) fn word(&self, at: usize, len: usize, word: Text, cursor: &Cursor<'_>) -> Result<ExprTree, Stop>
+    pub(crate) fn word(
+        &self,
+        at: usize,
+        len: usize,
+        word: Text,
+        cursor: &Cursor<'_>,
+    ) -> Result<ExprTree, Stop>
         ensures { Reads (spec.word at len word cursor.now) result cursor.now }
     {
         match truth(word.bytes()) {

@@ -28,3 +28,5 @@ pub use tree::{ExprTree, Step};
 
 #[cfg(test)]
 mod tests;
+#[cfg(test)]
+mod tree_tests;

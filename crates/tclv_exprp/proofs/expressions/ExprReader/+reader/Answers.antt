@@ -271,4 +271,3 @@ pub named-returns-else-takes-clause-reads : goal.named-returns-else-takes-clause
 unfolding named behind_mark
 named-returns-else-takes-clause-reads t c =
     first_of (search rules, grind (arith, common_steps, after_after, after_none))
-
