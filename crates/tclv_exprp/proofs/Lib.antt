@@ -9,3 +9,5 @@ pub mod Chains
 pub mod Nesting
 pub mod After
 pub mod Starts
+pub mod WholeFronts
+pub mod FloatingFronts

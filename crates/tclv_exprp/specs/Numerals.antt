@@ -1,5 +1,6 @@
 -- Where a number ends: it is the longest front that has the form of a whole number, or that of a floating point number with digits.
-use Rattle.std.specs.Prelude.{ℕ, ◌+◌, ◌≤◌, Bool, true, false, ◌||◌, ◌==◌, if◌then◌else◌, drop, Option, Some, None}
+use Rattle.std.specs.Prelude.{◌≡◌, ℕ, ◌+◌, ◌<◌, ◌≤◌, Bool, true, false, ◌||◌, ◌==◌, if◌then◌else◌, length, take, drop, Option, Some, None}
+use Rattle.tclv_text.specs.Numbers.{unsigned, is_decimal_fraction}
 use Rattle.tclv_parse.specs.Runs.{Text}
 use Rattle.tclv_exprp.specs.declared.fronts.Class.{Class}
 use Rattle.tclv_exprp.specs.declared.fronts.Class.TheVariants as class
@@ -69,3 +70,27 @@ floating_by t n = if first t == 46 then fraction_len (drop 1 t) n else (if n == 
 -- How long the floating point number is that a text begins with, or 0: digits with a point before, among or behind them, or with an exponent, or with both.
 unfoldable pub floating_len : Text → ℕ
 floating_len t = floating_by (drop (digits_len t) t) (digits_len t)
+
+-- ---- a law
+
+abbrev pub is_there : Option ℕ → Bool
+is_there None = false
+is_there (Some n) = true
+
+-- a whole number without sign
+abbrev pub is_whole : Text → Bool
+is_whole t = is_there (unsigned t)
+
+-- The longest front of this form has n characters. Where n is 0 there is none.
+pub record IsLongestFront (form : Text → Bool) (t : Text) (n : ℕ) : Type 0 where
+  pub within : n ≤ length t
+  pub front : 0 < n → form (take n t) ≡ true
+  pub longest : (k : ℕ) → n < k → k ≤ length t → form (take k t) ≡ false
+
+-- Where a number ends: it is the longest front that is a whole number, or the longest that is a floating point number with digits.
+pub record NumbersEnd (t : Text) : Type 0 where
+  pub whole : IsLongestFront is_whole t (whole_len t)
+  pub floating : IsLongestFront is_decimal_fraction t (floating_len t)
+
+abbrev pub NumbersAreLongest : Type 0
+NumbersAreLongest = (t : Text) → NumbersEnd t
