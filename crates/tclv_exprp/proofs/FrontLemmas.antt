@@ -2,11 +2,10 @@
 use Rattle.std.proofs.Common.{◌≡◌, ℕ, zero, suc, ◌+◌, ◌-◌, ◌<◌, ◌≤◌, Bool, true, false, cond, List, [], ◌∷◌, ◌++◌, length, drop, take, length-drop, length-append, add-one, inl, inr, refl, sym, ap, ◌∙◌, arith}
 use Rattle.std.proofs.str.Laws as laws
 use Rattle.std.specs.Str.{chars}
-use Rattle.std.specs.Char.{len_utf8}
-use Rattle.std.proofs.lemmas.Str.{chars_past_char, chars-nil, length-encode, len_utf8_bounds}
-use lib.Utf8.{encode, encodes}
+use Rattle.std.proofs.lemmas.Str.{chars_past_char, chars-nil}
+use lib.Utf8.{encode}
 use Rattle.tclv_text.specs.Texts.{IsText}
-use Rattle.tclv_text.specs.Cursors.{sign, size}
+use Rattle.tclv_text.specs.Cursors.{sign}
 use Rattle.tclv_parse.specs.Runs.{Text}
 use Rattle.tclv_exprp.specs.declared.fronts.Class.{Class}
 use Rattle.tclv_exprp.specs.declared.fronts.Class.TheVariants as class

@@ -1,5 +1,5 @@
 -- The grammar of expressions, by precedence.
-use Rattle.std.specs.Prelude.{◌≡◌, ℕ, zero, suc, ◌+◌, ◌-◌, Bool, true, false, ◌==◌, nat_lt, if◌then◌else◌, List, [], ◌∷◌, take, drop, length, Option, Some, None, Result, Ok, Err, ℤ}
+use Rattle.std.specs.Prelude.{◌≡◌, ℕ, zero, suc, ◌+◌, Bool, false, ◌==◌, nat_lt, if◌then◌else◌, List, [], ◌∷◌, take, drop, length, Option, Some, None, Result, Ok, Err, ℤ}
 use Rattle.tclv_text.specs.Cursors.{sign, size}
 use Rattle.tclv_text.specs.declared.cursors.Sign.{Sign}
 use Rattle.tclv_text.specs.declared.cursors.Sign.TheVariants as s

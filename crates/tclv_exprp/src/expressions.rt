@@ -282,7 +282,10 @@ impl ExprReader {
 ///   that fault of scripts. A level is: the inside of parentheses, an argument, the operand of a
 ///   unary operator, the right operand of `**`, the second and the third operand of `?:`. At one
 ///   place with another fault it counts.
-/// - `TooLarge` never comes.
+/// - `TooLarge` never comes: a number stays as it is written. `NoMemory` comes where memory runs out.
+///
+/// Of the faults the first that is met in reading from the left is given. Time is linear in the
+/// length of the text. (expr(n))
 pub fn parse_expr(alloc: Global, text: &[u8]) -> Result<ExprTree, ExprFault>
     requires { IsText text.now }
     ensures { spec.Answers (spec.expression (chars text.now)) result }

@@ -27,8 +27,8 @@ pub enum ExprTree {
     Parts(Items<Part>),
     /// An operator before its operand.
     Unary(Op1, Boxed<ExprTree>),
-    /// An operand and one step or more, from left to right, whose operators bind equally. A `**` is a chain of one
-    /// step.
+    /// An operand and one step or more, from left to right, whose operators bind equally. A `**` is
+    /// a chain of one step.
     Chain(Boxed<ExprTree>, Items<Step>),
     /// `?:`: the test, the value where it is true, and that where it is false.
     Cond(Boxed<ExprTree>, Boxed<ExprTree>, Boxed<ExprTree>),

@@ -1,10 +1,7 @@
-use Rattle.std.proofs.Common.{rules, arith, ◌≡◌, ◌∙◌, sym, length, ap, Ok, Err, subst}
+use Rattle.std.proofs.Common.{rules, arith, length}
 use Rattle.std.proofs.lemmas.Grind.{common_steps}
-use Rattle.std.specs.Str.{chars}
-use Rattle.tclv_text.specs.Cursors.{size}
-use Rattle.tclv_exprp.specs.Fronts.{blanks}
-use Rattle.tclv_exprp.specs.ExpressionGrammar.{expression, whole_by, readers, max_room}
-use Rattle.tclv_exprp.proofs.Nesting.{stops, answers_fails, finished_more, finished_none, whole_size}
+use Rattle.tclv_exprp.specs.ExpressionGrammar.{expression, readers, max_room}
+use Rattle.tclv_exprp.proofs.NestingLemmas.{answers_fails, finished_more, finished_none, whole_size}
 use Rattle.tclv_exprp.proofs.expressions.parse_expr.Goals as goal
 
 pub returns-in_err-tree : goal.returns-in_err-tree

@@ -1,4 +1,4 @@
-use Rattle.std.proofs.Common.{◌≡◌, ◌<◌, true, false, length, drop, sym, ap, ◌∙◌, arith, length-drop}
+use Rattle.std.proofs.Common.{◌≡◌, ◌<◌, true, false, length, drop, sym, ap, ◌∙◌, arith}
 use Rattle.tclv_exprp.specs.Fronts.{first, is_in}
 use Rattle.tclv_exprp.proofs.FrontLemmas.{drop-next, run_on, run_less, run_done}
 use Rattle.tclv_exprp.proofs.fronts.pass_run.Goals as goal

@@ -1,4 +1,4 @@
-use Rattle.std.proofs.Common.{◌≡◌, ◌++◌, [], sym, ap, ◌∙◌, drop, take, length, ◌-◌}
+use Rattle.std.proofs.Common.{◌++◌, sym, ap, ◌∙◌, drop, take}
 use Rattle.std.specs.Str.{chars}
 use Rattle.std.proofs.lemmas.Str.{chars-nil}
 use Rattle.tclv_exprp.proofs.FrontLemmas.{later}

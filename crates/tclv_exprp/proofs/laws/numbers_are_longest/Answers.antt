@@ -1,5 +1,5 @@
-use Rattle.tclv_exprp.proofs.FloatingFronts.{floating_longest}
-use Rattle.tclv_exprp.proofs.WholeFronts.{whole_longest}
+use Rattle.tclv_exprp.proofs.FloatingLemmas.{floating_longest}
+use Rattle.tclv_exprp.proofs.WholeLemmas.{whole_longest}
 use Rattle.tclv_exprp.proofs.laws.numbers_are_longest.Goals as goal
 
 pub returns : goal.returns

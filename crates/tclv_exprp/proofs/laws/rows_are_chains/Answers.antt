@@ -1,4 +1,4 @@
-use Rattle.tclv_exprp.proofs.Chains.{rows_are}
+use Rattle.tclv_exprp.proofs.ChainLemmas.{rows_are}
 use Rattle.tclv_exprp.proofs.laws.rows_are_chains.Goals as goal
 
 pub returns : goal.returns

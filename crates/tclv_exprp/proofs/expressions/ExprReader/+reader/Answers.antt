@@ -1,13 +1,13 @@
-use Rattle.std.proofs.Common.{rules, arith, ◌≡◌, ◌<◌, ◌≤◌, ◌-◌, ◌+◌, ◌==◌, true, if◌then◌else◌, drop, length, ap, ◌∙◌, sym, Ok}
+use Rattle.std.proofs.Common.{rules, arith, ◌≡◌, ◌<◌, ◌-◌, ◌+◌, ◌==◌, true, if◌then◌else◌, drop, length, ap, ◌∙◌, sym, Ok}
 use Rattle.std.proofs.lemmas.Bool.{eqb-true}
 use Rattle.std.proofs.lemmas.Grind.{common_steps}
 use Rattle.tclv_exprp.specs.Fronts.{first, blanks}
-use Rattle.tclv_exprp.specs.ExpressionGrammar.{readers, deep, binary, steps, choice, otherwise, closed, behind_by, behind_blanks, behind_mark, chained, arguments, more_arguments, named}
-use Rattle.tclv_exprp.specs.Outcomes.{after, and_then}
-use Rattle.tclv_exprp.proofs.After.{after_after, after_none}
-use Rattle.tclv_exprp.proofs.Chains.{rows_are, arguments_are, past_operator, past_mark}
-use Rattle.tclv_exprp.proofs.Nesting.{reads_fails, operand_none, power_none, expr_none, operand_in, power_in, expr_in, binary_fails, binary_next}
-use Rattle.tclv_exprp.proofs.Starts.{start_variable, start_script}
+use Rattle.tclv_exprp.specs.ExpressionGrammar.{readers, binary, steps, choice, otherwise, behind_by, behind_blanks, behind_mark, chained, arguments, named}
+use Rattle.tclv_exprp.specs.Outcomes.{and_then}
+use Rattle.tclv_exprp.proofs.AfterLemmas.{after_after, after_none}
+use Rattle.tclv_exprp.proofs.ChainLemmas.{rows_are, arguments_are, past_operator, past_mark}
+use Rattle.tclv_exprp.proofs.NestingLemmas.{reads_fails, operand_none, power_none, expr_none, operand_in, power_in, expr_in, binary_fails, binary_next}
+use Rattle.tclv_exprp.proofs.StartLemmas.{start_variable, start_script}
 use Rattle.tclv_exprp.proofs.expressions.ExprReader.+reader.Goals as goal
 
 pub binary-returns-in_err-tree-clause-reads : goal.binary-returns-in_err-tree-clause-reads

@@ -1,8 +1,8 @@
 -- Levels of nesting, rows of operators, and whole texts.
-use Rattle.std.proofs.Common.{◌≡◌, ℕ, zero, suc, ◌+◌, ◌-◌, ◌<◌, ◌≤◌, ◌∷◌, [], List, Result, Ok, Err, refl, sym, ap, ◌∙◌, arith, subst, ⊎_elim, length, length-append}
+use Rattle.std.proofs.Common.{◌≡◌, ℕ, zero, suc, ◌<◌, ◌≤◌, ◌∷◌, [], List, Result, Ok, Err, refl, sym, ap, ◌∙◌, arith, ⊎_elim, length, length-append}
 use Rattle.std.proofs.lemmas.Bool.{cases_lt}
 use Rattle.std.proofs.lemmas.Bool.Decides.{nat_tests}
-use Rattle.std.proofs.lemmas.Str.{encodes-chars, length-encode, len_utf8_bounds}
+use Rattle.std.proofs.lemmas.Str.{encodes-chars, length-encode}
 use Rattle.std.specs.Str.{chars}
 use Rattle.std.specs.Char.{len_utf8}
 use lib.Utf8.{encode, encodes}
@@ -10,7 +10,6 @@ use Rattle.tclv_text.specs.Cursors.{size}
 use Rattle.tclv_text.specs.Texts.{IsText}
 use Rattle.tclv_parse.specs.Runs.{Text}
 use Rattle.tclv_exprp.specs.declared.tree.ExprTree.{ExprTree}
-use Rattle.tclv_exprp.specs.declared.tree.Step.{Step}
 use Rattle.tclv_exprp.specs.declared.faults.Fault.{Fault}
 use Rattle.tclv_exprp.specs.declared.faults.Fault.TheVariants as f
 use Rattle.tclv_exprp.specs.declared.faults.ExprFault.{ExprFault}

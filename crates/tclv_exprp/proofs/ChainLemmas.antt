@@ -1,5 +1,5 @@
 -- The recursions of rows and of arguments, without a count of turns.
-use Rattle.std.proofs.Common.{◌≡◌, ℕ, zero, suc, ◌+◌, ◌-◌, ◌<◌, ◌≤◌, ◌==◌, ◌∷◌, [], List, Bool, true, false, cond, drop, Option, Some, None, Result, Ok, Err, refl, sym, ap, ◌∙◌, arith, length, length-drop}
+use Rattle.std.proofs.Common.{◌≡◌, ℕ, zero, suc, ◌<◌, ◌≤◌, ◌==◌, ◌∷◌, [], List, Bool, true, false, cond, drop, Option, Some, None, Ok, Err, refl, sym, ap, ◌∙◌, arith, length}
 use Rattle.std.proofs.lemmas.Bool.{eqb-true}
 use Rattle.tclv_parse.specs.Fix.{go, fix, IsLocal}
 use Rattle.tclv_parse.specs.Runs.{Text}
@@ -11,8 +11,8 @@ use Rattle.tclv_exprp.specs.Fronts.{first, blanks}
 use Rattle.tclv_exprp.specs.Infixes.{at_level, behind, operator, infix_of, double_of, word_of, single_of}
 use Rattle.tclv_exprp.specs.Outcomes.{Outcome, Parser, and_then, after}
 use Rattle.tclv_exprp.specs.ExpressionGrammar.{step, steps, steps_by, steps_step, binary, readers, more_step, more_arguments, stray}
-use Rattle.tclv_exprp.proofs.ScriptShrinks.{Within}
-use Rattle.tclv_exprp.proofs.Shrinks.{Shrinks, blanks_less, behind_less, over_blanks, readers_shrink, binary_shrinks}
+use Rattle.tclv_exprp.proofs.ScriptLemmas.{Within}
+use Rattle.tclv_exprp.proofs.ShrinkLemmas.{Shrinks, blanks_less, behind_less, readers_shrink, binary_shrinks}
 
 module _ {A : Type 0} (step : (Text → A) → Text → A) (stuck : A) (local : IsLocal step) where
   enough : (n m : ℕ) (t : Text) → length t ≤ n → length t ≤ m → go step stuck n t ≡ go step stuck m t

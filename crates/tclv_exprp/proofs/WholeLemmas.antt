@@ -1,7 +1,7 @@
 -- The whole number at the front of a text is the longest front of that form.
-use Rattle.std.proofs.Common.{◌≡◌, ℕ, zero, suc, ◌+◌, ◌-◌, ◌*◌, ◌<◌, ◌≤◌, ◌==◌, Bool, true, false, ◌||◌, cond, if◌then◌else◌, List, [], ◌∷◌, length, take, drop, Option, Some, None, refl, sym, ap, ap₂, ◌∙◌, arith}
+use Rattle.std.proofs.Common.{◌≡◌, ℕ, zero, suc, ◌+◌, ◌*◌, ◌<◌, ◌≤◌, ◌==◌, Bool, true, false, ◌||◌, cond, if◌then◌else◌, [], ◌∷◌, length, take, Option, Some, None, refl, sym, ap, ap₂, ◌∙◌, arith}
 use Rattle.std.specs.List.{prefix_len}
-use Rattle.std.specs.Char.{is_digit, digit_value, is_ascii_digit, is_ascii_hexdigit}
+use Rattle.std.specs.Char.{is_digit, digit_value, is_ascii_digit}
 use Rattle.std.specs.Option.{option_or}
 use Rattle.std.proofs.lemmas.Bool.{eqb-true}
 use Rattle.std.proofs.lemmas.Bool.Decides.{nat_tests}
@@ -10,8 +10,8 @@ use Rattle.tclv_text.specs.Numbers.{digits_after, number, radix_of, number_in, b
 use Rattle.tclv_parse.specs.Runs.{Text}
 use Rattle.tclv_exprp.specs.declared.fronts.Class.{Class}
 use Rattle.tclv_exprp.specs.declared.fronts.Class.TheVariants as class
-use Rattle.tclv_exprp.specs.Fronts.{first, second, is_in, run_len, digits_len}
-use Rattle.tclv_exprp.specs.Numerals.{named_base, base, based_by, based_digits, whole_by, whole_len, is_there, is_whole, IsLongestFront}
+use Rattle.tclv_exprp.specs.Fronts.{first, is_in, run_len, digits_len}
+use Rattle.tclv_exprp.specs.Numerals.{named_base, based_by, based_digits, whole_by, whole_len, is_there, is_whole, IsLongestFront}
 
 -- ---- digits
 

@@ -1,16 +1,15 @@
 -- The floating point number at the front of a text is the longest front of that form.
-use Rattle.std.proofs.Common.{◌≡◌, ℕ, zero, suc, ◌+◌, ◌-◌, ◌<◌, ◌≤◌, ◌==◌, Bool, true, false, ◌||◌, ◌&&◌, cond, if◌then◌else◌, List, [], ◌∷◌, length, take, drop, nat_lt, nat_eq, inl, inr, refl, sym, ap, ap₂, ◌∙◌, arith, length-drop}
+use Rattle.std.proofs.Common.{◌≡◌, ℕ, zero, suc, ◌+◌, ◌-◌, ◌<◌, ◌≤◌, ◌==◌, Bool, true, false, ◌||◌, ◌&&◌, cond, if◌then◌else◌, [], ◌∷◌, length, take, drop, nat_lt, inl, inr, refl, sym, ap, ap₂, ◌∙◌, arith, length-drop}
 use Rattle.std.proofs.str.Laws as laws
 use Rattle.std.specs.List.{prefix_len}
 use Rattle.std.specs.Char.{is_ascii_digit}
-use Rattle.std.proofs.lemmas.Bool.{eqb-true}
 use Rattle.std.proofs.lemmas.Bool.Decides.{nat_tests}
 use Rattle.std.proofs.lemmas.List.{drop-take, length-take-le}
 use Rattle.std.proofs.lemmas.List.Sums.{prefix_len-le-length}
 use Rattle.tclv_text.specs.Numbers.{is_decimal_fraction, is_fraction_or_exponent, is_exponent, is_digits, without_sign}
 use Rattle.tclv_parse.specs.Runs.{Text}
-use Rattle.tclv_exprp.specs.Fronts.{first, is_sign, run_len, digits_len, sign_len}
-use Rattle.tclv_exprp.specs.Numerals.{is_exponent_letter, some_behind, scale_len, exponent_len, fraction_len, floating_by, floating_len, IsLongestFront}
+use Rattle.tclv_exprp.specs.Fronts.{first, is_sign, run_len, sign_len}
+use Rattle.tclv_exprp.specs.Numerals.{is_exponent_letter, some_behind, scale_len, exponent_len, floating_by, floating_len, IsLongestFront}
 
 abbrev digits : Text → ℕ
 digits t = prefix_len is_ascii_digit t
@@ -55,7 +54,7 @@ module _ (form inner : Text → Bool) (t u : Text) (k : ℕ) (b : Behind form in
   later i h = let e : i ≡ k + (i - k) = omega arith in ap (λ j. form (take j t)) e ∙ b.late (i - k) (omega arith)
 
   none_by : (i : ℕ) → ((j : ℕ) → 0 < j → j ≤ length u → inner (take j u) ≡ false) → i ≤ length t → form (take i t) ≡ false
-  none_by i none h = elim (laws.order k i) [ | inl g ↦ later i g ∙ none (i - k) (omega arith) (omega (arith, b.len)) | inr l ↦ b.early i l ]
+  none_by i none h = elim (laws.order k i) [ inl g ↦ later i g ∙ none (i - k) (omega arith) (omega (arith, b.len)) | inr l ↦ b.early i l ]
 
   shifted : (n : ℕ) → IsLongestFront inner u n → IsLongestFront form t (some_behind k n)
   shifted zero h =
@@ -113,6 +112,7 @@ module _ (c : ℕ) (letter : is_exponent_letter c ≡ true) where
         early (suc zero) h = letter_alone c
         early (suc (suc zero)) h = lettered (d ∷ []) ∙ ap (λ b. is_digits (if b then [] else d ∷ [])) e
         early (suc (suc (suc i))) h = absurd (omega arith)
+
         late : (i : ℕ) → 0 < i → is_exponent (take (2 + i) (c ∷ d ∷ ds)) ≡ is_digits (take i ds)
         late i h = let two : 2 + i ≡ suc (suc i) = omega arith in ap (λ j. is_exponent (take j (c ∷ d ∷ ds))) two ∙ lettered (d ∷ take i ds) ∙ ap (λ b. is_digits (if b then take i ds else d ∷ take i ds)) e
 
@@ -123,6 +123,7 @@ module _ (c : ℕ) (letter : is_exponent_letter c ≡ true) where
         early zero h = refl
         early (suc zero) h = letter_alone c
         early (suc (suc i)) h = absurd (omega arith)
+
         late : (i : ℕ) → 0 < i → is_exponent (take (1 + i) (c ∷ d ∷ ds)) ≡ is_digits (take i (d ∷ ds))
         late zero h = absurd (omega arith)
         late (suc i) h = let two : 1 + suc i ≡ suc (suc i) = omega arith in ap (λ j. is_exponent (take j (c ∷ d ∷ ds))) two ∙ lettered (d ∷ take i ds) ∙ ap (λ b. is_digits (if b then take i ds else d ∷ take i ds)) e
@@ -199,6 +200,7 @@ module _ (n c : ℕ) (cs : Text) (point : (c == 46) ≡ true) where
     where
       none : (k : ℕ) → k ≡ 0 → nat_lt 0 k ≡ false
       none k z = ap (nat_lt 0) z
+
       longest : (k : ℕ) → 0 < k → k ≤ length (c ∷ cs) → is_fraction_or_exponent n (take k (c ∷ cs)) ≡ false
       longest zero h g = absurd (omega arith)
       longest (suc j) h g =
@@ -219,6 +221,7 @@ module _ (n c : ℕ) (cs : Text) (point : (c == 46) ≡ true) where
           let back : digits cs + suc x - digits cs ≡ suc x = omega arith in
           at_more (digits cs + suc x) (omega arith) (omega (arith, e.within, prefix_len-le-length is_ascii_digit cs, length-drop (digits cs) cs))
           ∙ ap₂ ◌&&◌ (positive (n + digits cs) some) (ap (λ k. is_exponent (take k (drop (digits cs) cs))) back ∙ e.front (omega arith))
+
       longest : (k : ℕ) → suc (digits cs + x) < k → k ≤ length (c ∷ cs) → is_fraction_or_exponent n (take k (c ∷ cs)) ≡ false
       longest zero h g = absurd (omega arith)
       longest (suc j) h g =

@@ -1,5 +1,5 @@
 -- What the readers of expressions leave behind is never longer than what they were given, so that no count of turns shows.
-use Rattle.std.proofs.Common.{◌≡◌, ℕ, zero, suc, ◌+◌, ◌-◌, ◌<◌, ◌≤◌, ◌==◌, ◌∷◌, [], List, Bool, true, false, cond, drop, take, Option, Some, None, Result, Ok, Err, refl, sym, ap, ◌∙◌, arith, length, length-drop}
+use Rattle.std.proofs.Common.{ℕ, zero, suc, ◌+◌, ◌≤◌, ◌==◌, ◌∷◌, [], List, Bool, true, false, cond, drop, take, Option, Some, None, Ok, Err, arith, length, length-drop}
 use Rattle.tclv_text.specs.Cursors.{sign}
 use Rattle.tclv_text.specs.declared.cursors.Sign.{Sign}
 use Rattle.tclv_text.specs.declared.cursors.Sign.TheVariants as s
@@ -16,21 +16,20 @@ use Rattle.tclv_exprp.specs.declared.tree.ExprTree.{ExprTree}
 use Rattle.tclv_exprp.specs.declared.tree.ExprTree.TheVariants as tree
 use Rattle.tclv_exprp.specs.declared.tree.Step.{Step}
 use Rattle.tclv_exprp.specs.declared.operators.Infix.{Infix}
-use Rattle.tclv_exprp.specs.declared.faults.Fault.{Fault}
-use Rattle.tclv_exprp.specs.declared.faults.Fault.TheVariants.{Syntax, TooDeep, WrongCount}
+use Rattle.tclv_exprp.specs.declared.faults.Fault.TheVariants.{TooDeep, WrongCount}
 use Rattle.tclv_exprp.specs.declared.fronts.Class.TheVariants as class
 use Rattle.tclv_exprp.specs.declared.functions.Count.{Count}
 use Rattle.tclv_exprp.specs.declared.operands.Begins.{Begins}
 use Rattle.tclv_exprp.specs.declared.operands.Begins.TheVariants as b
 use Rattle.tclv_exprp.specs.Fronts.{first, blanks, is_blank, run_len, sign_len}
-use Rattle.tclv_exprp.specs.Numerals.{whole_len, floating_len, lacks_digits}
+use Rattle.tclv_exprp.specs.Numerals.{whole_len, lacks_digits}
 use Rattle.tclv_exprp.specs.Functions.{arity, takes}
-use Rattle.tclv_exprp.specs.Infixes.{at_level, behind, is_single, operator, infix_of, double_of, word_of, single_of, levels, power_level}
+use Rattle.tclv_exprp.specs.Infixes.{at_level, behind, is_single, levels, power_level}
 use Rattle.tclv_exprp.specs.Operands.{start}
 use Rattle.tclv_exprp.specs.Outcomes.{Outcome, Parser, and_then, after, leaf}
 use Rattle.tclv_exprp.specs.ExpressionGrammar as e
 use Rattle.tclv_exprp.specs.ExpressionGrammar.{Readers, step, steps, steps_by, steps_step, binary, chained, lone, readers}
-use Rattle.tclv_exprp.proofs.ScriptShrinks.{Within, wider, further, variable_less, parts_less, braced_less, deeper_less}
+use Rattle.tclv_exprp.proofs.ScriptLemmas.{Within, wider, further, variable_less, parts_less, braced_less, deeper_less}
 
 abbrev pub Shrinks : {A : Type 0} → Parser A → Type 0
 Shrinks p = (t : Text) → Within (length t) (p t)

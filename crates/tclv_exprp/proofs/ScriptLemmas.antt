@@ -1,6 +1,6 @@
 -- What the rules of scripts leave behind is never longer than what they were given.
-use Rattle.std.proofs.Common.{◌≡◌, ℕ, zero, suc, ◌-◌, ◌≤◌, ◌==◌, Bool, true, false, cond, List, [], ◌∷◌, ◌++◌, length, drop, take, length-drop, Result, Ok, Err, arith}
-use Rattle.tclv_text.specs.Cursors.{sign, escape_len, escape_char}
+use Rattle.std.proofs.Common.{ℕ, zero, suc, ◌-◌, ◌≤◌, ◌==◌, Bool, true, false, cond, List, [], length, drop, take, length-drop, Result, Ok, Err, arith}
+use Rattle.tclv_text.specs.Cursors.{sign, escape_len}
 use Rattle.tclv_text.specs.declared.cursors.Sign.{Sign}
 use Rattle.tclv_text.specs.declared.cursors.Sign.TheVariants as s
 use Rattle.tclv_parse.specs.declared.runs.Form.{Form}
@@ -10,12 +10,10 @@ use Rattle.tclv_parse.specs.declared.runs.Run.TheVariants as run
 use Rattle.tclv_parse.specs.declared.faults.ParseFault.{ParseFault}
 use Rattle.tclv_parse.specs.declared.faults.ParseFault.TheVariants as f
 use Rattle.tclv_parse.specs.declared.tree.Part.{Part}
-use Rattle.tclv_parse.specs.declared.tree.Part.TheVariants as part
 use Rattle.tclv_parse.specs.declared.tree.Word.{Word}
 use Rattle.tclv_parse.specs.declared.tree.Command.{Command}
-use Rattle.tclv_parse.specs.declared.tree.Script.{Script}
 use Rattle.tclv_parse.specs.Fix.{go, fix}
-use Rattle.tclv_parse.specs.Runs.{Text, run_len, run_end, level_of, stops, ends_word, ends_command, expands}
+use Rattle.tclv_parse.specs.Runs.{Text, run_len, run_end, stops, ends_word, ends_command, expands}
 use Rattle.tclv_parse.specs.Readings.{Piece, Reading, End, valued_end, join_end, emit}
 use Rattle.tclv_parse.specs.Grammar as g
 use Rattle.tclv_parse.specs.Grammar.{Deeper, Course}
