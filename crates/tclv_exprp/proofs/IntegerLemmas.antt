@@ -1,15 +1,14 @@
 -- Numbers of 64 bits.
-use Rattle.std.proofs.Common.{◌≡◌, ℕ, zero, suc, ◌+◌, ◌-◌, ◌*◌, ◌/◌, ◌%◌, ◌^◌, ◌<◌, ◌≤◌, true, false, not, Bool, ℤ, pos, negsuc, neg_ℤ, ◌-ℤ◌, ◌+ℤ◌, ◌*ℤ◌, Option, Some, None, Ok, Err, sym, ap, ap₂, subst, subst₂, ◌∙◌, refl, arith, ⊎_elim, w64, ltb, to_z, of_z, SFits, true≢false}
+use Rattle.std.proofs.Common.{◌≡◌, ℕ, ◌/◌, ◌%◌, ◌^◌, ◌<◌, ◌≤◌, true, false, Bool, ℤ, pos, negsuc, neg_ℤ, ◌-ℤ◌, ◌+ℤ◌, Option, Some, None, Ok, Err, sym, ap, ap₂, subst, subst₂, ◌∙◌, refl, arith, ⊎_elim, w64, ltb, to_z, of_z, SFits, true≢false}
 use mathlib.Core.Bool.{beq}
 use Rattle.std.specs.Prelude.{int_lt, unsigned_abs}
 use Rattle.std.specs.Option.{ok_or, SomeIff}
-use Rattle.std.specs.Int.{div_ceil, int_pow}
+use Rattle.std.specs.Int.{div_ceil}
 use Rattle.std.specs.Int.RustNames.{FitsSigned}
 use Rattle.std.proofs.lemmas.Int.{ints, to_z-of_z}
-use Rattle.std.proofs.lemmas.Bool.{cond-true, cond-false, lt-ltb, le-ltb, ltb-true, cases_lt, ne_eqb, eq-eqb}
-use Rattle.std.proofs.Math.Nat.{pow-suc, one-le-pow, pow-le-pow_left, pow-le-pow_right}
-use Rattle.tclv_exprp.specs.declared.operators.OpFault.TheVariants.{DivideByZero, TooLarge, NegativeShift, ZeroPower}
-use Rattle.tclv_exprp.specs.Operators.{Answer, fit, divide, remainder, quotient, left, rest, sized, gap, power, power_up, power_down, sign_power}
+use Rattle.std.proofs.lemmas.Bool.{cond-true, cond-false, lt-ltb, le-ltb, cases_lt, ne_eqb, eq-eqb}
+use Rattle.tclv_exprp.specs.declared.operators.OpFault.TheVariants.{DivideByZero, TooLarge}
+use Rattle.tclv_exprp.specs.Operators.{fit, divide, remainder, quotient, left, rest, sized}
 
 pub fit_some : (z : ℤ) → FitsSigned w64 z → fit z ≡ Ok z
 unfolding fit

@@ -1,3 +1,13 @@
+pub mod AfterLemmas
+pub mod ChainLemmas
+pub mod FloatingLemmas
+pub mod FrontLemmas
+pub mod FunctionLemmas
 pub mod IntegerLemmas
+pub mod NestingLemmas
 pub mod PowerLemmas
+pub mod ScriptLemmas
 pub mod ShiftLemmas
+pub mod ShrinkLemmas
+pub mod StartLemmas
+pub mod WholeLemmas

@@ -1,12 +1,11 @@
 -- Powers and numbers by their bits.
-use Rattle.std.proofs.Common.{◌≡◌, ℕ, zero, suc, ◌+◌, ◌-◌, ◌*◌, ◌/◌, ◌%◌, ◌^◌, ◌<◌, ◌≤◌, true, false, Bool, ℤ, pos, negsuc, neg_ℤ, Ok, Err, sym, ap, ap₂, subst, ◌∙◌, refl, arith, ⊎_elim, w64, to_z, of_z, SFits, true≢false, pow_mono, cond, eqb}
+use Rattle.std.proofs.Common.{◌≡◌, ℕ, zero, suc, ◌-◌, ◌%◌, ◌^◌, ◌≤◌, true, false, Bool, ℤ, pos, negsuc, neg_ℤ, Ok, Err, sym, ap, subst, ◌∙◌, refl, arith, w64, to_z, of_z, SFits, true≢false, pow_mono, cond, eqb}
 use Rattle.std.specs.Prelude.{int_lt, unsigned_abs}
-use Rattle.std.specs.Int.{int_pow}
 use Rattle.std.proofs.Math.Nat.{pow-suc, pow-le-pow_left, mul-zero, mul-one}
 use Rattle.std.proofs.lemmas.Int.{to_z-of_z}
 use Rattle.tclv_exprp.specs.declared.operators.OpFault.TheVariants.{TooLarge, ZeroPower}
 use Rattle.tclv_exprp.specs.Operators.{Answer, fit, power, power_up, power_down, sign_power, sized, complement}
-use Rattle.tclv_exprp.proofs.IntegerLemmas.{fit_some, fit_none, not_below}
+use Rattle.tclv_exprp.proofs.IntegerLemmas.{fit_none, not_below}
 
 pub bits_0 : (a : ℤ) → SFits w64 a → of_z w64 a ≡ 0 → pos 0 ≡ a
 bits_0 (pos n) f e = ap pos (sym e)

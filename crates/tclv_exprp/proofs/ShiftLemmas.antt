@@ -1,5 +1,5 @@
 -- Shifts.
-use Rattle.std.proofs.Common.{◌≡◌, ℕ, zero, suc, ◌+◌, ◌-◌, ◌*◌, ◌/◌, ◌%◌, ◌^◌, ◌<◌, ◌≤◌, true, false, Bool, ℤ, pos, negsuc, neg_ℤ, ◌*ℤ◌, Option, Some, None, Ok, Err, sym, ap, ap₂, subst, ◌∙◌, refl, arith, ⊎_elim, w64, to_z, of_z, SFits, true≢false, pow_mono, pow_pos, cond, eqb, min, add-one}
+use Rattle.std.proofs.Common.{◌≡◌, ℕ, zero, suc, ◌+◌, ◌*◌, ◌/◌, ◌%◌, ◌^◌, ◌<◌, ◌≤◌, true, false, ℤ, pos, negsuc, neg_ℤ, ◌*ℤ◌, Option, Some, None, Ok, Err, sym, ap, ap₂, subst, ◌∙◌, refl, arith, ⊎_elim, w64, to_z, of_z, SFits, true≢false, pow_mono, pow_pos, min, add-one}
 use Rattle.std.specs.Prelude.{int_lt, unsigned_abs}
 use Rattle.std.specs.Option.{SomeIff}
 use Rattle.std.specs.Int.{div_ceil}
@@ -8,9 +8,9 @@ use Rattle.std.proofs.Math.Nat.{div-add-mod', mod-lt, mod-eq_of_lt, suc-mod, mod
 use Rattle.std.proofs.lemmas.Bool.{cases_lt}
 use Rattle.std.proofs.lemmas.Int.{to_z-of_z}
 use Rattle.tclv_exprp.specs.declared.operators.OpFault.TheVariants.{TooLarge, NegativeShift}
-use Rattle.tclv_exprp.specs.Operators.{Answer, fit, sized, quotient, shift_left, shift_left_by, shift_right, shift_right_by}
-use Rattle.tclv_exprp.proofs.IntegerLemmas.{fit_some, fit_none, not_below, side, side_is}
-use Rattle.tclv_exprp.proofs.PowerLemmas.{large, bits_0}
+use Rattle.tclv_exprp.specs.Operators.{Answer, fit, sized, shift_left, shift_left_by, shift_right, shift_right_by}
+use Rattle.tclv_exprp.proofs.IntegerLemmas.{not_below, side, side_is}
+use Rattle.tclv_exprp.proofs.PowerLemmas.{large}
 
 pub left_negative : (a b : ℤ) → int_lt b (pos 0) ≡ true → Err NegativeShift ≡ shift_left a b
 unfolding shift_left

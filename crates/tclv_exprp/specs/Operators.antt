@@ -1,6 +1,6 @@
 -- What the operators give, over the integers.
-use Rattle.std.specs.Prelude.{◌≡◌, ◌≢◌, ℕ, zero, suc, ◌+◌, ◌-◌, ◌*◌, ◌/◌, ◌%◌, ◌^◌, ◌<◌, Bool, true, false, not, ◌||◌, ◌==◌, nat_lt, if◌then◌else◌, ℤ, pos, negsuc, neg_ℤ, ◌+ℤ◌, ◌-ℤ◌, ◌*ℤ◌, int_lt, unsigned_abs, Result, Ok, Err}
-use Rattle.std.specs.Int.{is_negative, div_ceil, int_pow, w64, int_bit_and, int_bit_or, int_bit_xor}
+use Rattle.std.specs.Prelude.{◌≡◌, ◌≢◌, ℕ, zero, suc, ◌-◌, ◌/◌, ◌%◌, ◌^◌, ◌<◌, Bool, true, false, not, ◌==◌, nat_lt, if◌then◌else◌, ℤ, pos, negsuc, neg_ℤ, ◌+ℤ◌, ◌-ℤ◌, ◌*ℤ◌, int_lt, unsigned_abs, Result, Ok, Err}
+use Rattle.std.specs.Int.{div_ceil, int_pow, w64, int_bit_and, int_bit_or, int_bit_xor}
 use Rattle.std.specs.Ordering.{int_eq}
 use Rattle.tclv_exprp.specs.declared.operators.Op1.{Op1}
 use Rattle.tclv_exprp.specs.declared.operators.Op1.TheVariants as u

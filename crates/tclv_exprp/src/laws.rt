@@ -1,8 +1,27 @@
-//! Laws of the operators. Each is the contract of a function that does nothing.
+//! Laws of the definitions that this crate keeps. Each is the contract of a function that does nothing.
+ghost use Rattle.tclv_exprp.specs.ExpressionGrammar.{ArgumentsAreLists, RowsAreChains};
+ghost use Rattle.tclv_exprp.specs.Numerals.{NumbersAreLongest};
 ghost use Rattle.tclv_exprp.specs.Operators.{RoundsDown};
 
 /// Division rounds down: the divisor times the quotient and the remainder give the number, and the
 /// remainder lies from 0 up to the divisor, without it, on its side of 0.
 pub fn rounds_down()
     ensures { RoundsDown }
+{}
+
+/// The operators of a row with their operands are read one behind the other: no count of turns
+/// shows in what they mean.
+pub fn rows_are_chains()
+    ensures { RowsAreChains }
+{}
+
+/// Nor does one in the arguments of a call.
+pub fn arguments_are_lists()
+    ensures { ArgumentsAreLists }
+{}
+
+/// A number is the longest front of a text that has the form of a whole number, or the longest that
+/// has the form of a floating point number with digits, as the readers of numbers define both.
+pub fn numbers_are_longest()
+    ensures { NumbersAreLongest }
 {}

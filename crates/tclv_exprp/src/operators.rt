@@ -70,3 +70,37 @@ pub enum Op2 {
     /// `>=`
     GreaterEqual,
 }
+
+/// An operator of two texts, by its word. Each gives 1 or 0.
+#[derive(Clone, Copy, Debug, PartialEq, Eq)]
+pub enum WordOp {
+    /// `eq`
+    Eq,
+    /// `ne`
+    Ne,
+    /// `lt`: by code points, as the next three.
+    Lt,
+    /// `gt`
+    Gt,
+    /// `le`
+    Le,
+    /// `ge`
+    Ge,
+    /// `in`: the left text is an element of the right list.
+    Among,
+    /// `ni`: it is none.
+    NotAmong,
+}
+
+/// An operator between two operands.
+#[derive(Clone, Copy, Debug, PartialEq, Eq)]
+pub enum Infix {
+    /// An operator of two numbers; those that compare also compare other texts.
+    Number(Op2),
+    /// An operator of two texts.
+    Words(WordOp),
+    /// `&&`: the right operand counts only where the left one is true.
+    And,
+    /// `||`: the right operand counts only where the left one is false.
+    Or,
+}

@@ -1,5 +1,5 @@
 use Rattle.std.proofs.Common.{◌≡◌, ◌∙◌, ap, sym, Ok, ℤ}
-use Rattle.tclv_exprp.specs.Operators.{Answer, apply1, fit, complement}
+use Rattle.tclv_exprp.specs.Operators.{Answer, apply1, fit}
 use Rattle.tclv_exprp.proofs.IntegerLemmas.{real1, fit_of}
 use Rattle.tclv_exprp.proofs.PowerLemmas.{inverted}
 use Rattle.std.specs.Prelude.{neg_ℤ}

@@ -1,4 +1,4 @@
-use Rattle.std.proofs.Common.{◌≡◌, ◌∙◌, Err, Ok, ℤ, ap, sym, to_z, of_z, w64}
+use Rattle.std.proofs.Common.{◌≡◌, ◌∙◌, Err, Ok, ℤ, ap, w64}
 use Rattle.tclv_exprp.specs.declared.operators.OpFault.TheVariants.{NegativeShift}
 use Rattle.tclv_exprp.specs.Operators.{Answer, shift_right}
 use Rattle.tclv_exprp.proofs.IntegerLemmas.{real2}

@@ -1,4 +1,4 @@
-use Rattle.std.proofs.Common.{◌≡◌, ◌^◌, ℤ, pos, negsuc, true, false, subst, sym, to_z, of_z, w64}
+use Rattle.std.proofs.Common.{◌≡◌, ◌^◌, pos, true, false, subst, sym, to_z, of_z, w64}
 use Rattle.std.specs.Prelude.{int_lt}
 use Rattle.std.specs.Int.Signed.{shr_z}
 use Rattle.std.proofs.lemmas.Int.{to_z-of_z}
