@@ -1,0 +1,123 @@
+-- Rows where few units are left: evaluators that agree there give the same, and no unit comes back.
+use Rattle.std.proofs.Common.{ℕ, ◌++◌, List, [], ◌∷◌, true, false, Result, Ok, Err}
+use Rattle.std.specs.List.{concat}
+use Rattle.std.specs.Prelude.{ℤ, pos, ◌+ℤ◌, codes}
+use Rattle.tclv_text.specs.declared.numbers.WholeFault.{WholeFault}
+use Rattle.tclv_text.specs.Numbers.{whole, whole_text}
+use Rattle.tclv_model.specs.declared.messages.MessageId.{MessageId}
+use Rattle.tclv_interp.specs.declared.builtins.Builtin.{Builtin}
+use Rattle.tclv_interp.specs.declared.builtins.Builtin.TheVariants as builtin
+use Rattle.tclv_interp.specs.declared.channels.Channel.{Channel}
+use Rattle.tclv_interp.specs.declared.channels.Channel.TheVariants as channel
+use Rattle.tclv_interp.specs.State.{Text}
+use Rattle.tclv_interp.specs.Results.{ok}
+use Rattle.tclv_interp.specs.Words.{Evaluator}
+use Rattle.tclv_interp.specs.WholeNumbers.{read_whole, whole_number}
+use Rattle.tclv_interp.specs.VariableRows.{is_unset, variable_or, assign_result, row_set, fits, assign_sum, increase_from, increase, increase_by, row_incr, append_all, row_append}
+use Rattle.tclv_interp.specs.ChannelRows.{channel_named, line, is_nonewline, put, put_found, put_named, put_two, put_three, row_puts}
+use Rattle.tclv_interp.specs.RunRows.{exit_with, row_exit}
+use Rattle.tclv_interp.specs.Builtins.{row}
+use Rattle.tclv_interp.proofs.SameLemmas.{Agree, EvaluatorsAgree, with_itself, if_same, bind_same, variable_same, assign_same}
+
+-- ---- set
+
+ok-same : (n : ℕ) (text : Text) → Agree n (ok text) (ok text)
+ok-same n text st u = with_itself u
+
+assign_result-same : (n : ℕ) (name value : Text) → Agree n (assign_result name value) (assign_result name value)
+assign_result-same n name value st u = bind_same (assign_same n name value st u) (ok-same n)
+
+set-same : (n : ℕ) (words : List Text) → Agree n (row_set words) (row_set words)
+set-same n [] st u = with_itself u
+set-same n (word ∷ []) st u = with_itself u
+set-same n (word ∷ name ∷ []) st u = bind_same (variable_same n name st u) (ok-same n)
+set-same n (word ∷ name ∷ value ∷ []) st u = assign_result-same n name value st u
+set-same n (word ∷ name ∷ value ∷ more ∷ words) st u = with_itself u
+
+-- ---- incr
+
+read_whole-same : (n : ℕ) (text : Text) (r : Result ℤ WholeFault) → Agree n (read_whole text r) (read_whole text r)
+read_whole-same n text (Ok k) st u = with_itself u
+read_whole-same n text (Err fault) st u = with_itself u
+
+whole_number-same : (n : ℕ) (text : Text) → Agree n (whole_number text) (whole_number text)
+whole_number-same n text = read_whole-same n text (whole text)
+
+variable_or-same : (n : ℕ) (instead name : Text) → Agree n (variable_or instead name) (variable_or instead name)
+variable_or-same n instead name st u = if_same (is_unset name st.vars) (with_itself u) (variable_same n name st u)
+
+assign_sum-same : (n : ℕ) (name : Text) (sum : ℤ) → Agree n (assign_sum name sum) (assign_sum name sum)
+assign_sum-same n name sum st u = if_same (fits sum) (assign_result-same n name (whole_text sum) st u) (with_itself u)
+
+increase_from-same : (n : ℕ) (name : Text) (increment : ℤ) (text : Text) → Agree n (increase_from name increment text) (increase_from name increment text)
+increase_from-same n name increment text st u = bind_same (whole_number-same n text st u) (λ k. assign_sum-same n name (k +ℤ increment))
+
+increase-same : (n : ℕ) (name : Text) (increment : ℤ) → Agree n (increase name increment) (increase name increment)
+increase-same n name increment st u = bind_same (variable_or-same n (codes "0") name st u) (increase_from-same n name increment)
+
+increase_by-same : (n : ℕ) (name increment : Text) → Agree n (increase_by name increment) (increase_by name increment)
+increase_by-same n name increment st u = bind_same (whole_number-same n increment st u) (increase-same n name)
+
+incr-same : (n : ℕ) (words : List Text) → Agree n (row_incr words) (row_incr words)
+incr-same n [] st u = with_itself u
+incr-same n (word ∷ []) st u = with_itself u
+incr-same n (word ∷ name ∷ []) st u = increase-same n name (pos 1) st u
+incr-same n (word ∷ name ∷ increment ∷ []) st u = increase_by-same n name increment st u
+incr-same n (word ∷ name ∷ increment ∷ more ∷ words) st u = with_itself u
+
+-- ---- append
+
+append_all-same : (n : ℕ) (name : Text) (values : List Text) → Agree n (append_all name values) (append_all name values)
+append_all-same n name values st u = bind_same (variable_or-same n [] name st u) (λ text. assign_result-same n name (text ++ concat values))
+
+append-same : (n : ℕ) (words : List Text) → Agree n (row_append words) (row_append words)
+append-same n [] st u = with_itself u
+append-same n (word ∷ []) st u = with_itself u
+append-same n (word ∷ name ∷ []) st u = bind_same (variable_same n name st u) (ok-same n)
+append-same n (word ∷ name ∷ value ∷ values) st u = append_all-same n name (value ∷ values) st u
+
+-- ---- puts
+
+put-same : (n : ℕ) (to : Channel) (text : Text) → Agree n (put to text) (put to text)
+put-same n to text st u = bind_same (with_itself u) (λ _. ok-same n [])
+
+put_found-same : (n : ℕ) (name text : Text) (r : Result Channel MessageId) → Agree n (put_found name text r) (put_found name text r)
+put_found-same n name text (Ok to) st u = put-same n to text st u
+put_found-same n name text (Err kind) st u = with_itself u
+
+put_named-same : (n : ℕ) (name text : Text) → Agree n (put_named name text) (put_named name text)
+put_named-same n name text = put_found-same n name text (channel_named name)
+
+put_two-same : (n : ℕ) (first text : Text) → Agree n (put_two first text) (put_two first text)
+put_two-same n first text st u = if_same (is_nonewline first) (put-same n channel.Output (line false text) st u) (put_named-same n first (line true text) st u)
+
+put_three-same : (n : ℕ) (word option name text : Text) → Agree n (put_three word option name text) (put_three word option name text)
+put_three-same n word option name text st u = if_same (is_nonewline option) (put_named-same n name (line false text) st u) (with_itself u)
+
+puts-same : (n : ℕ) (words : List Text) → Agree n (row_puts words) (row_puts words)
+puts-same n [] st u = with_itself u
+puts-same n (word ∷ []) st u = with_itself u
+puts-same n (word ∷ text ∷ []) st u = put-same n channel.Output (line true text) st u
+puts-same n (word ∷ first ∷ text ∷ []) st u = put_two-same n first text st u
+puts-same n (word ∷ option ∷ name ∷ text ∷ []) st u = put_three-same n word option name text st u
+puts-same n (word ∷ option ∷ name ∷ text ∷ more ∷ words) st u = with_itself u
+
+-- ---- exit
+
+exit_with-same : (n : ℕ) (code : Text) → Agree n (exit_with code) (exit_with code)
+exit_with-same n code st u = bind_same (whole_number-same n code st u) (λ k s1 v. with_itself v)
+
+exit-same : (n : ℕ) (words : List Text) → Agree n (row_exit words) (row_exit words)
+exit-same n [] st u = with_itself u
+exit-same n (word ∷ []) st u = with_itself u
+exit-same n (word ∷ code ∷ []) st u = exit_with-same n code st u
+exit-same n (word ∷ code ∷ more ∷ words) st u = with_itself u
+
+-- ---- the row of each command
+
+pub rows_agree : (n : ℕ) (ev ev' : Evaluator) → EvaluatorsAgree n ev ev' → (b : Builtin) (words : List Text) → Agree n (row b ev words) (row b ev' words)
+rows_agree n ev ev' h builtin.Append = append-same n
+rows_agree n ev ev' h builtin.Exit = exit-same n
+rows_agree n ev ev' h builtin.Incr = incr-same n
+rows_agree n ev ev' h builtin.Puts = puts-same n
+rows_agree n ev ev' h builtin.Set = set-same n

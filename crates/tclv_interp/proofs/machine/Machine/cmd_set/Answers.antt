@@ -1,0 +1,23 @@
+use Rattle.std.proofs.Common.{rules, ap, ◌∙◌, ◌-◌, [], get_or}
+use Rattle.tclv_interp.specs.State.{state_of}
+use Rattle.tclv_value.specs.Stacks.{top}
+use Rattle.tclv_interp.specs.VariableRows.{set_usage}
+use Rattle.tclv_interp.proofs.Binds.{runs_as}
+use Rattle.tclv_interp.proofs.WordLemmas.{usage_runs, first_of_top, raises_rest}
+use Rattle.tclv_interp.proofs.VariableRowLemmas.{set_reads, set_assigns, set_refused, set_usage_written}
+use Rattle.tclv_interp.proofs.machine.Machine.cmd_set.Goals as goal
+
+pub returns-in-2-clause-answer : goal.returns-in-2-clause-answer
+returns-in-2-clause-answer c here w told =
+    runs_as (set_reads c.args.self.now.values.store.stack c.args.n _ (state_of c.args.self.now w) c.in-2.is c.requires.words (ap (λ l. l - c.args.n) c.height.ensures)) (c.read_result.ensures.answer here w told)
+
+pub returns-in-3-clause-answer : goal.returns-in-3-clause-answer
+returns-in-3-clause-answer c here w told =
+    runs_as (set_assigns c.args.self.now.values.store.stack c.args.n _ (state_of c.args.self.now w) c.in-3.is c.requires.words (ap (λ l. l - c.args.n) c.height.ensures)) (c.assign_result.ensures.answer here w told)
+
+pub returns-in_default-clause-answer : goal.returns-in_default-clause-answer
+returns-in_default-clause-answer c here w told =
+    let stack = c.args.self.now.values.store.stack in
+    runs_as (set_refused stack c.args.n (state_of c.args.self.now w) c.requires.words (λ e. search (rules, e, c.in_default)) (λ e. search (rules, e, c.in_default)))
+    (usage_runs c.args.self.now set_usage _ (top c.args.n stack) told c.raise_at.ensures.same
+    (ap (λ l. get_or stack (l - c.args.n) []) c.height.ensures ∙ first_of_top stack c.args.n c.requires.some c.requires.words) (raises_rest _ _ _ c.raise_at.new.self.values.store.stack c.raise_at.result set_usage_written c.raise_at.ensures.raises))

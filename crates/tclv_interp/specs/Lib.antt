@@ -1,0 +1,17 @@
+pub mod Holdings
+pub mod State
+pub mod Results
+pub mod Answers
+pub mod Units
+pub mod Names
+pub mod Variables
+pub mod Words
+pub mod Builtins
+pub mod Evaluation
+pub mod Bounds
+pub mod Usages
+pub mod WholeNumbers
+pub mod ChannelRows
+pub mod RunRows
+pub mod VariableRows
+pub mod Interpreters

@@ -1,0 +1,77 @@
+// The commands that are built in.
+ghost use Rattle.std.specs.Prelude.{◌≡◌, ◌<◌, ◌≤◌, ◌-◌, [], length, slice_index_or};
+ghost use Rattle.tclv_text.specs.Texts.{IsText};
+ghost use Rattle.tclv_value.specs.View.{HasPlace, IsMade, text_at};
+ghost use Rattle.tclv_interp.specs.Builtins as spec;
+ghost use Rattle.tclv_interp.specs.Answers.{Answers, KeepsStack, IsCalm, returned};
+
+use crate::endings::{End, ErrorCode};
+use crate::machine::Machine;
+use crate::names::is_qualified;
+use tclv_model::MessageId;
+use tclv_text::as_str;
+use tclv_value::At;
+
+/// A command that is built in.
+#[derive(Clone, Copy, Debug, PartialEq, Eq)]
+pub enum Builtin {
+    Append,
+    Exit,
+    Incr,
+    Puts,
+    Set,
+}
+
+/// The command of a name.
+pub fn builtin_of(name: &[u8]) -> Option<Builtin>
+    requires { IsText name.now }
+    ensures { result ≡ spec.builtin_of name.now }
+{
+    match as_str(name) {
+        "append" => Some(Builtin::Append),
+        "exit" => Some(Builtin::Exit),
+        "incr" => Some(Builtin::Incr),
+        "puts" => Some(Builtin::Puts),
+        "set" => Some(Builtin::Set),
+        _ => None,
+    }
+}
+
+impl Machine {
+    /// The command that the lowest of the top n texts names.
+    pub fn resolve(&mut self, n: usize) -> Result<Builtin, End>
+        requires words { n ≤ length self.old.values.store.stack }
+        requires some { 0 < n }
+        ensures answer { Answers (spec.resolve (slice_index_or self.old.values.store.stack (length self.old.values.store.stack - n) [])) returned self.old result self.new }
+        ensures stack { KeepsStack self.old.values.store.stack result self.new.values.store.stack }
+        ensures calm { IsCalm result }
+        ensures units { self.new.units ≤ self.old.units }
+    {
+        let name = At::Stack(self.values.height() - n);
+        self.values.make_text(name)?;
+        self.resolve_made(name)
+    }
+
+    // The command that the text of a place names, which is made.
+    fn resolve_made(&mut self, name: At) -> Result<Builtin, End>
+        requires place { HasPlace self.old.values.store name }
+        requires made { IsMade self.old.values.store name }
+        ensures answer { Answers (spec.resolve (text_at self.old.values.store name)) returned self.old result self.new }
+        ensures stack { KeepsStack self.old.values.store.stack result self.new.values.store.stack }
+        ensures calm { IsCalm result }
+        ensures units { self.new.units ≤ self.old.units }
+    {
+        if is_qualified(self.values.lend(name)) {
+            return Err(self.not_built());
+        }
+        match builtin_of(self.values.lend(name)) {
+            Some(builtin) => Ok(builtin),
+            None => Err(self.raise_at(
+                MessageId::UnknownCommand,
+                name,
+                b"",
+                ErrorCode::UnknownCommand,
+            )),
+        }
+    }
+}

@@ -1,0 +1,29 @@
+//! Evaluation: what a script does.
+//!
+//! The meaning of a script stands in specs/: a state, what a computation of the meaning gives, the
+//! substitution of words, the evaluation of scripts, and one row for each command. Values are
+//! texts there. The code walks trees of scripts and keeps values in a store, where they are shared.
+#![tactic(auto)]
+
+mod builtins;
+mod calls;
+mod channel_commands;
+mod channels;
+mod endings;
+mod evaluation;
+mod faults;
+mod interpreters;
+pub mod laws;
+mod machine;
+mod messages;
+mod names;
+mod pushing;
+mod raising;
+mod run_commands;
+mod units;
+mod values;
+mod variable_commands;
+mod variables;
+mod whole_numbers;
+
+pub use interpreters::{Interp, Stop};
