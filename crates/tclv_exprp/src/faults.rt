@@ -81,6 +81,17 @@ impl From<NoMemory> for Stop {
     }
 }
 
+impl From<NoMemory> for ExprFault {
+    ghost use Rattle.std.specs.Prelude.{◌≡◌};
+    ghost use Rattle.tclv_exprp.specs.declared.faults.ExprFault.TheVariants.{NoMemory};
+
+    ghost from_gives = { λ _ e. e ≡ NoMemory };
+
+    fn from(_: NoMemory) -> ExprFault {
+        ExprFault::NoMemory
+    }
+}
+
 impl From<Stop> for ExprFault {
     ghost use Rattle.std.specs.Prelude.{◌≡◌};
     ghost use Rattle.tclv_exprp.specs.Outcomes.{stop_fault};

@@ -37,6 +37,7 @@ pub then_refused : {A B : Type 0} (why : ValueFault) (r : Result A PathFlaw) (f 
 then_refused fault.NotWhole r f is = absurd is
 then_refused fault.TooLarge r f is = absurd is
 then_refused fault.FloatForm r f is = absurd is
+then_refused fault.NotTruth r f is = absurd is
 then_refused (fault.NotList e) r f is = (is.0, then_known_err r f _ is.1, is.2)
 then_refused fault.BadIndex r f is = then_known_err r f _ is
 then_refused (fault.OutOfRange n) r f is = then_known_err r f _ is
@@ -57,6 +58,7 @@ refused_bytes : (why : ValueFault) (bs : List ℕ) (level : ℕ) (i : List ℕ) 
 refused_bytes fault.NotWhole bs level i text is = absurd is
 refused_bytes fault.TooLarge bs level i text is = absurd is
 refused_bytes fault.FloatForm bs level i text is = absurd is
+refused_bytes fault.NotTruth bs level i text is = absurd is
 refused_bytes (fault.NotList e) bs level i text is = let read = flaw_read bs e text is in (chars bs, flawed_step level (chars bs) i read.0 read.1, is)
 refused_bytes fault.BadIndex bs level i text is = absurd is
 refused_bytes (fault.OutOfRange n) bs level i text is = absurd is

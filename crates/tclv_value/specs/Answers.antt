@@ -1,5 +1,5 @@
 -- What the calls of a store answer.
-use Rattle.std.specs.Prelude.{◌≡◌, ℤ, Result, Err}
+use Rattle.std.specs.Prelude.{◌≡◌, ℤ, Bool, Option, None, Result, Err}
 use Rattle.tclv_text.specs.declared.numbers.WholeFault.{WholeFault}
 use Rattle.tclv_text.specs.declared.numbers.WholeFault.TheVariants as read
 use Rattle.tclv_text.specs.declared.lists.ListFault.{ListFault}
@@ -25,3 +25,9 @@ RefusesWhole fault.TooLarge answer = answer ≡ Err read.TooLarge
 RefusesWhole fault.FloatForm answer = answer ≡ Err read.FloatForm
 RefusesWhole fault.NoMemory answer = Unit {0}
 RefusesWhole _ answer = ⊥
+
+-- A text that was read as a truth value, with this answer, is refused with this fault: it is none, or memory ran out.
+abbrev pub RefusesTruth : ValueFault → Option Bool → Type 0
+RefusesTruth fault.NotTruth answer = answer ≡ None
+RefusesTruth fault.NoMemory answer = Unit {0}
+RefusesTruth _ answer = ⊥

@@ -40,8 +40,10 @@ impl Store {
         Ok(Text::new(bytes))
     }
 
-    // The elements of the list that the text of a place is. It is made there.
-    pub(crate) fn elements_at(&mut self, at: At) -> Result<Vec<Text>, ValueFault>
+    /// The elements of the list that the text of a place is, from the left. No text changes.
+    ///
+    /// Refuses with `NotList` exactly where the text is no list.
+    pub fn elements_at(&mut self, at: At) -> Result<Vec<Text>, ValueFault>
         requires { HasPlace self.old at }
         ensures elements { IfOk result (λ ts. elements (text_at self.old at) ≡ Ok ts.items) }
         ensures refused { IfErr result (λ fault. RefusesList fault (text_at self.old at)) }

@@ -16,6 +16,9 @@ pub enum ValueFault {
     /// It has the form of a floating point number.
     #[error("a floating point number")]
     FloatForm,
+    /// It is no truth value.
+    #[error("not a truth value")]
+    NotTruth,
     /// It is no list, and this is why: the first fault from the left, but never its want of memory.
     #[error("not a list: {0}")]
     NotList(ListFault),

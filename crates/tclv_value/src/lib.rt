@@ -22,6 +22,7 @@ mod list_paths;
 mod lists;
 mod numbers;
 mod places;
+mod readings;
 mod sequences;
 mod store;
 

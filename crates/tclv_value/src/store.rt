@@ -4,7 +4,6 @@ ghost use Rattle.std.specs.Str.{chars};
 ghost use Rattle.std.specs.FinMap as finite;
 ghost use Rattle.tclv_text.specs.Texts.{IsText};
 ghost use Rattle.tclv_text.specs.Numbers.{whole, whole_text};
-ghost use Rattle.tclv_parse.specs.Grammar.{commands};
 
 use crate::faults::ValueFault;
 use crate::forms::{Form, Forms};
@@ -13,9 +12,7 @@ use crate::places::{At, object_at};
 use indexmap::IndexMap;
 use std::alloc::Global;
 use std::marker::Model;
-use std::rc::Rc;
 use tclv_heap::{Heap, ObjId};
-use tclv_parse::{Script, parse};
 use tclv_text::{NoMemory, Stats, Text};
 
 /// A stack of texts and cells with texts.
@@ -126,6 +123,11 @@ impl Store {
         self.heap.share(copied);
         self.stack[to] = copied;
         self.heap.release(old);
+    }
+
+    /// What the store takes its memory from.
+    pub fn allocator(&self) -> Global {
+        self.alloc
     }
 
     /// How many texts the stack has. Takes no memory.
@@ -240,32 +242,6 @@ impl Store {
     {
         let id = object_at(self.stack.as_slice(), &self.cells, at);
         whole_of(&mut self.heap, id)
-    }
-
-    /// The tree of the script that the text of a place is, as `tclv_parse::parse` reads it. No text
-    /// changes. (Tcl(n), "Commands", "Words".)
-    pub fn script(&mut self, at: At) -> Result<Rc<Script>, NoMemory>
-        requires { HasPlace self.old at }
-        ensures tree { IfOk result (λ tree. tree.value ≡ commands (text_at self.old at)) }
-        ensures stack { self.new.stack ≡ self.old.stack }
-        ensures cells { self.new.cells ≡ self.old.cells }
-        ensures stays { StaysMade self.old self.new }
-    {
-        self.make_text(at)?;
-        let tree = self.made_script(at)?;
-        Ok(Rc::new(self.alloc, tree)?)
-    }
-
-    // The tree of a text that is made.
-    fn made_script(&self, at: At) -> Result<Script, NoMemory>
-        requires place { HasPlace self.now at }
-        requires made { IsMade self.now at }
-        ensures { IfOk result (λ tree. tree ≡ commands (text_at self.now at)) }
-    {
-        match self.text(at) {
-            Some(text) => parse(self.alloc, text),
-            None => unreachable!(),
-        }
     }
 
     // Where the store's memory comes from.

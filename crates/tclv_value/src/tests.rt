@@ -9,6 +9,7 @@ ghost use Rattle.tclv_value.specs.declared.places.At.TheVariants.{Stack, Cell};
 mod lists;
 
 use super::*;
+use tclv_exprp::ExprFault;
 use tclv_parse::ParseFault;
 use tclv_text::{NoMemory, Stats};
 
@@ -143,5 +144,31 @@ fn scripts_are_read(rt: HostRuntime) -> Result<(), NoMemory> {
     assert_eq!(rt; tree.commands.as_slice().len(), 1);
     assert_eq!(rt; tree.fault, Some(ParseFault::CloseBrace));
     assert!(rt; has_text(&store, At::Stack(0), "puts a; set b {c"));
+    Ok(())
+}
+
+#[test]
+fn truth_values_are_read(rt: HostRuntime) -> Result<(), NoMemory> {
+    let rows = [
+        (" 2 ", Ok(true)),
+        ("off", Ok(false)),
+        ("o", Err(ValueFault::NotTruth)),
+    ];
+    let mut store = Store::new(rt.alloc());
+    for (text, want) in rows {
+        store.push_text(text.as_bytes())?;
+        assert_eq!(rt; store.truth(At::Stack(0)), want, "at {text}");
+        store.pop(1);
+    }
+    Ok(())
+}
+
+#[test]
+fn expressions_are_read(rt: HostRuntime) -> Result<(), NoMemory> {
+    let mut store = Store::new(rt.alloc());
+    store.push_text("1 + 2".as_bytes())?;
+    store.push_text("1 +".as_bytes())?;
+    assert!(rt; store.expr(At::Stack(0)).is_ok());
+    assert_eq!(rt; store.expr(At::Stack(1)).err(), Some(ExprFault::Syntax(3)));
     Ok(())
 }

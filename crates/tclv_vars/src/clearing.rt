@@ -22,7 +22,7 @@ fn clear_elements(cells: &mut Numbered<Content>, store: &mut Store, mut elements
     }
 }
 
-// The cell holds nothing, and neither does one of its elements.
+/// Empties a cell: it holds nothing then, and neither does one of its elements. Takes no memory.
 #[tactic(auto, using(crate::proofs::ClearLemmas::without_first, crate::proofs::ClearLemmas::without_one))]
 pub fn clear(cells: &mut Numbered<Content>, store: &mut Store, cell: u64)
     ensures cells { cells.new.map ≡ without cells.old.map (freed cells.old.map cell) }
@@ -38,7 +38,7 @@ pub fn clear(cells: &mut Numbered<Content>, store: &mut Store, cell: u64)
     }
 }
 
-// The names' own cells hold nothing, and neither do those of their elements.
+/// Empties the cells that are the names' own, with those of their elements. Cells behind links stay.
 pub fn clear_names(cells: &mut Numbered<Content>, store: &mut Store, mut names: Names<Slot>)
     requires apart { Apart cells.old.map names }
     ensures cells { cells.new.map ≡ without_names cells.old.map cells.old.map names }

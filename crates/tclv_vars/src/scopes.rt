@@ -31,7 +31,7 @@ impl Scopes {
     ghost use Rattle.tclv_vars.specs.Scoping.{at_start, home, home_of, slot_of, with_name, has_names, without_name, without_space, level_of, caller_of, space_of, is_local_at, above, pushed, popped, last_names, at_frame, at_level};
     ghost use Rattle.tclv_vars.specs.declared.places.Home.TheVariants.{Local, Of};
 
-    // The global frame alone.
+    /// The global frame alone, in the global namespace, without a name.
     pub fn new(alloc: Global) -> Result<Scopes, NoMemory>
         ensures { IfOk result (λ s. s ≡ at_start) }
     {
@@ -54,6 +54,7 @@ impl Scopes {
         })
     }
 
+    /// Where the names of a place stand: in the current frame where it is local, else in its namespace.
     pub fn home(&self, at: Place) -> Home
         ensures { result ≡ home self.now at }
     {
@@ -63,6 +64,7 @@ impl Scopes {
         }
     }
 
+    /// Where the names of a frame stand.
     pub fn home_of(&self, frame: usize) -> Home
         ensures { result ≡ home_of self.now frame }
     {
@@ -78,7 +80,7 @@ impl Scopes {
         }
     }
 
-    // What the name stands for there.
+    /// What the name stands for there. `None` where it stands for nothing.
     #[tactic(auto, using(crate::proofs::MapLemmas::absent))]
     pub fn slot(&self, home: Home, name: &[u8]) -> Option<Slot>
         ensures { result ≡ slot_of self.now home name.now }
@@ -95,7 +97,7 @@ impl Scopes {
         }
     }
 
-    // Makes the name stand for the slot's cell.
+    /// Makes the name stand for the slot's cell. After `NoMemory` all is as before.
     pub fn put(&mut self, home: Home, name: &[u8], slot: Slot) -> Result<(), NoMemory>
         ensures put { OnOk result (self.new ≡ with_name self.old home name.now slot) }
         ensures refused { OnErr result (self.new ≡ self.old) }
@@ -135,7 +137,7 @@ impl Scopes {
         Ok(())
     }
 
-    // Whether any names are kept there.
+    /// Whether any names are kept there.
     pub fn has_names(&self, home: Home) -> bool
         ensures { result ≡ has_names self.now home }
     {
@@ -145,7 +147,7 @@ impl Scopes {
         }
     }
 
-    // Takes a name out.
+    /// Takes a name out. Takes no memory.
     pub fn take_name(&mut self, home: Home, name: &[u8])
         ensures { self.new ≡ without_name self.old home name.now }
     {
@@ -182,7 +184,7 @@ impl Scopes {
         self.spaces.replace(space, names);
     }
 
-    // Takes a namespace out, with its names.
+    /// Takes a namespace out, with its names. A local frame's names stay.
     pub fn take_space(&mut self, home: Home)
         ensures { self.new ≡ without_space self.old home }
     {
@@ -194,13 +196,14 @@ impl Scopes {
         }
     }
 
-    // The number of the current frame.
+    /// The number of the current frame, from 0, which is the global one.
     pub fn current(&self) -> usize
         ensures { result ≡ self.now.current }
     {
         self.current
     }
 
+    /// The level of the current frame: 0 for the global one, and one above its caller's for each other.
     pub fn level(&self) -> usize
         ensures { result ≡ level_of self.now self.now.current }
     {
@@ -210,6 +213,7 @@ impl Scopes {
         }
     }
 
+    /// The number of the current frame's namespace.
     pub fn space(&self) -> u64
         ensures { result ≡ space_of self.now self.now.current }
     {
@@ -219,6 +223,7 @@ impl Scopes {
         }
     }
 
+    /// Whether the current frame has local names.
     pub fn is_local(&self) -> bool
         ensures { result ≡ is_local_at self.now self.now.current }
     {
@@ -228,7 +233,7 @@ impl Scopes {
         }
     }
 
-    // A new frame, which is current then.
+    /// Puts a new frame on the others, which is current then. After `NoMemory` all is as before.
     pub fn push(&mut self, space: u64, local: bool) -> Result<(), NoMemory>
         ensures pushed { OnOk result (self.new ≡ pushed self.old space local) }
         ensures refused { OnErr result (self.new ≡ self.old) }
@@ -263,7 +268,7 @@ impl Scopes {
         last
     }
 
-    // Takes the last frame off, and gives its names. Its caller is current then.
+    /// Takes the last frame off, and gives its names. Its caller is current then.
     pub fn pop_names(&mut self) -> Names<Slot>
         ensures names { result ≡ last_names self.old }
         ensures popped { self.new ≡ popped self.old }
@@ -274,13 +279,14 @@ impl Scopes {
         }
     }
 
+    /// Makes the frame of this number current.
     pub fn use_frame(&mut self, frame: usize)
         ensures { self.new ≡ at_frame self.old frame }
     {
         self.current = frame;
     }
 
-    // The frame that is so many calls above the current one.
+    /// The number of the frame that is so many calls above the current one.
     #[tactic(auto, using(crate::proofs::ScopeLemmas::above_step))]
     pub fn above(&self, calls: usize) -> usize
         ensures { result ≡ above self.now calls self.now.current }
@@ -303,7 +309,8 @@ impl Scopes {
         }
     }
 
-    // Makes the frame of that level current, and gives the one that was.
+    /// Makes the frame of that level current, and gives the number of the one that was. `None`, and
+    /// nothing changes, where the level is above the current one.
     pub fn use_level(&mut self, level: usize) -> Option<usize>
         ensures old { result ≡ (if nat_lt (level_of self.old self.old.current) level then None else Some self.old.current) }
         ensures current { self.new ≡ at_level self.old level }

@@ -29,6 +29,7 @@ impl Tables {
     ghost use Rattle.tclv_vars.specs.Scoping.{home, slot_of, last_names, level_of, at_level, at_frame};
     ghost use Rattle.tclv_vars.specs.Table.{table_of, at_scopes, begun, no_variables, read, plain_at, read_element, locate, locate_element, set_cell, HoldsArray, elements_of, new_name, new_array, new_element, Gives, write};
 
+    /// No variable, and the global frame.
     pub fn new(alloc: Global) -> Result<Tables, NoMemory>
         ensures { IfOk result (λ t. table_of t ≡ no_variables) }
     {
@@ -65,6 +66,7 @@ impl Tables {
         }
     }
 
+    /// The cell of a variable that is set, or of an element. The faults are those of `Vars::read`.
     pub fn read(&self, at: Place, name: &[u8], index: Option<&[u8]>) -> Result<u64, VarFault>
         ensures { result ≡ read (table_of self.now) at name.now (option_copied index.entry) }
     {
@@ -203,6 +205,8 @@ impl Tables {
         }
     }
 
+    /// The cell of a variable that is to be set, which is made where there is none. The faults are
+    /// those of `Vars::write`, and after each all is as before.
     pub fn write(
         &mut self,
         at: Place,
@@ -222,12 +226,14 @@ impl Tables {
         }
     }
 
+    /// Lends the frames and their names.
     pub fn scopes(&self) -> &Scopes
         ensures { result.now ≡ self.now.scopes }
     {
         &self.scopes
     }
 
+    /// Puts a new frame on the others, which is current then. After `NoMemory` all is as before.
     pub fn push_frame(&mut self, space: u64, local: bool) -> Result<(), NoMemory>
         ensures pushed { OnOk result (table_of self.new ≡ begun (table_of self.old) space local) }
         ensures refused { OnErr result (table_of self.new ≡ table_of self.old) }
@@ -235,7 +241,7 @@ impl Tables {
         self.scopes.push(space, local)
     }
 
-    // The last frame ends, with the cells of its own names.
+    /// Ends the last frame, with the cells of its own names. Its caller is current then.
     pub fn pop_frame(&mut self, store: &mut Store)
         requires apart { Apart self.old.cells.map (last_names self.old.scopes) }
         ensures ended { table_of self.new ≡ ended (table_of self.old) }
@@ -247,6 +253,8 @@ impl Tables {
         clear_names(&mut self.cells, store, names);
     }
 
+    /// Makes the frame of that level current, and gives the number of the one that was. `NoLevel`, and
+    /// nothing changes, where the level is above the current one.
     pub fn use_level(&mut self, level: usize) -> Result<usize, VarFault>
         ensures answer { result ≡ (if nat_lt (level_of self.old.scopes self.old.scopes.current) level then Err NoLevel else Ok self.old.scopes.current) }
         ensures current { table_of self.new ≡ at_scopes (table_of self.old) (at_level self.old.scopes level) }
@@ -257,6 +265,7 @@ impl Tables {
         }
     }
 
+    /// Makes the frame of this number current.
     pub fn use_frame(&mut self, frame: usize)
         ensures { table_of self.new ≡ at_scopes (table_of self.old) (at_frame self.old.scopes frame) }
     {
@@ -276,6 +285,7 @@ impl Tables {
         }
     }
 
+    /// What of a variable isn't there, so that a write makes it.
     pub fn missing(&self, at: Place, name: &[u8], index: Option<&[u8]>) -> Missing
         ensures { result ≡ missing (table_of self.now) at name.now (option_copied index.entry) }
     {
@@ -389,6 +399,7 @@ impl Tables {
         }
     }
 
+    /// Takes a write back: what was missing before it is missing again.
     pub fn take_back(&mut self, at: Place, name: &[u8], index: Option<&[u8]>, missing: Missing)
         ensures { table_of self.new ≡ undone missing (table_of self.old) (home self.old.scopes at) name.now (option_copied index.entry) }
     {
