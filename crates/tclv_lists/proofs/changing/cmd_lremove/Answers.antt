@@ -1,0 +1,15 @@
+use Rattle.std.proofs.Common.{◌≤◌, [], ap, arith}
+use Rattle.tclv_lists.specs.Replies.{call_word}
+use Rattle.tclv_lists.specs.Changing.{row_lremove}
+use Rattle.tclv_lists.proofs.ReplyLemmas.{answered, answers_as}
+use Rattle.tclv_lists.proofs.WordLemmas.{first_word}
+use Rattle.tclv_lists.proofs.changing.cmd_lremove.Goals as goal
+
+pub returns : goal.returns
+returns c =
+    let s = c.args.store.now.stack in
+    let n = c.args.n in
+    let h = c.height-height.ensures in
+    let le : n ≤ c.height-height.result = omega arith in
+    let row = ap (row_lremove (call_word n s)) (first_word s [] n (omega arith) (omega arith)) in
+    answers_as _ _ n _ _ _ row (answered _ n _ _ _ _ _ _ h le c.push_removed-done.ensures c.settle.ensures.settles c.settle.ensures.same)

@@ -1,0 +1,15 @@
+use Rattle.std.proofs.Common.{◌≤◌, [], ap, arith}
+use Rattle.tclv_lists.specs.Replies.{call_word}
+use Rattle.tclv_lists.specs.Making.{row_lrepeat}
+use Rattle.tclv_lists.proofs.ReplyLemmas.{answered, answers_as}
+use Rattle.tclv_lists.proofs.WordLemmas.{first_word}
+use Rattle.tclv_lists.proofs.making.cmd_lrepeat.Goals as goal
+
+pub returns : goal.returns
+returns c =
+    let s = c.args.store.now.stack in
+    let n = c.args.n in
+    let h = c.height-height.ensures in
+    let le : n ≤ c.height-height.result = omega arith in
+    let row = ap (row_lrepeat (call_word n s)) (first_word s [] n (omega arith) (omega arith)) in
+    answers_as _ _ n _ _ _ row (answered _ n _ _ _ _ _ _ h le c.push_repeated-done.ensures c.settle.ensures.settles c.settle.ensures.same)

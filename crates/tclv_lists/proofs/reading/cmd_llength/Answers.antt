@@ -1,0 +1,24 @@
+use Rattle.std.proofs.Common.{◌≡◌, ◌≤◌, ◌-◌, ◌∙◌, ℕ, [], length, get_or, ap, sym, arith}
+use Rattle.tclv_value.specs.Stacks.{top}
+use Rattle.tclv_lists.specs.Replies.{call_word}
+use Rattle.tclv_lists.specs.Reading.{length_of, row_llength}
+use Rattle.tclv_lists.proofs.ReplyLemmas.{answered, answers_as}
+use Rattle.tclv_lists.proofs.WordLemmas.{count_words, one_word}
+use Rattle.tclv_lists.proofs.RowLemmas.{llength_count}
+use Rattle.tclv_lists.proofs.reading.cmd_llength.Goals as goal
+
+pub returns-then-n-ne1 : goal.returns-then-n-ne1
+returns-then-n-ne1 c =
+    let s = c.args.store.now.stack in
+    let n = c.args.n in
+    let k : length (top n s) ≡ n = count_words s [] n (omega arith) in
+    answers_as _ _ n _ _ _ (llength_count (call_word n s) (top n s) (λ e. c.if-n-ne1.true (sym k ∙ e))) c.refuse_words.ensures
+
+pub returns : goal.returns
+returns c =
+    let s = c.args.store.now.stack in
+    let n = c.args.n in
+    let h = c.height-height.ensures in
+    let le : n ≤ c.height-height.result = omega arith in
+    let row = ap (row_llength (call_word n s)) (one_word s [] n c.if-n-ne1.false (omega arith)) ∙ ap (λ (k : ℕ). length_of (get_or s (k - 1) [])) (sym h) in
+    answers_as _ _ n _ _ _ row (answered _ n _ _ _ _ _ _ h le c.push_length-done.ensures c.settle.ensures.settles c.settle.ensures.same)

@@ -1,0 +1,61 @@
+// The options of commands, which stand before their other words.
+ghost use Rattle.std.specs.Prelude.{◌≡◌, ◌<◌, [], length, IsTrue, IfOk, slice_index_or};
+ghost use Rattle.std.specs.List.{list_all};
+ghost use Rattle.std.specs.Char.{is_ascii};
+ghost use Rattle.std.specs.Str.{bytes_eq};
+ghost use Rattle.tclv_value.specs.View.{IsMade};
+ghost use Rattle.tclv_value.specs.declared.places.At.TheVariants.{Stack};
+ghost use Rattle.tclv_value.specs.Changes.{KeepsTexts};
+
+use crate::replies::make_word;
+use tclv_text::{NoMemory, Text, as_str};
+use tclv_value::{At, Store};
+
+// Whether a word, which is made, is this ASCII text.
+fn made_word_is(store: &Store, at: usize, text: &str) -> bool
+    requires place { at < length store.now.stack }
+    requires made { IsMade store.now (Stack at) }
+    requires ascii { IsTrue (list_all is_ascii text.now) }
+    ensures { result ≡ bytes_eq (slice_index_or store.now.stack at []) text.now }
+{
+    match store.text(At::Stack(at)) {
+        Some(word) => as_str(word) == text,
+        None => unreachable!(),
+    }
+}
+
+/// Whether a word is this ASCII text.
+pub(crate) fn word_is(store: &mut Store, at: usize, text: &str) -> Result<bool, NoMemory>
+    requires place { at < length store.old.stack }
+    requires ascii { IsTrue (list_all is_ascii text.now) }
+    ensures is { IfOk result (λ same. same ≡ bytes_eq (slice_index_or store.old.stack at []) text.now) }
+    ensures kept { KeepsTexts store.old store.new }
+{
+    make_word(store, at)?;
+    Ok(made_word_is(store, at, text))
+}
+
+// A copy of the text of a word, which is made.
+fn made_copy(store: &Store, at: usize) -> Result<Text, NoMemory>
+    requires place { at < length store.now.stack }
+    requires made { IsMade store.now (Stack at) }
+    ensures { IfOk result (λ t. t ≡ slice_index_or store.now.stack at []) }
+{
+    match store.text(At::Stack(at)) {
+        Some(word) => {
+            let bytes = Vec::from_slice(store.allocator(), word)?;
+            Ok(Text::new(bytes))
+        }
+        None => unreachable!(),
+    }
+}
+
+/// A copy of the text of a word.
+pub(crate) fn copy_of(store: &mut Store, at: usize) -> Result<Text, NoMemory>
+    requires { at < length store.old.stack }
+    ensures text { IfOk result (λ t. t ≡ slice_index_or store.old.stack at []) }
+    ensures kept { KeepsTexts store.old store.new }
+{
+    make_word(store, at)?;
+    made_copy(store, at)
+}
