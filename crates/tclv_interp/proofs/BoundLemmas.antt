@@ -15,7 +15,8 @@ use Rattle.tclv_interp.specs.Builtins.{builtin_of, resolved, resolve}
 use Rattle.tclv_interp.specs.Evaluation.{call, command, end_of, sequence, back_to, nested, evaluate, none_left, evaluator}
 use Rattle.tclv_interp.specs.Bounds.{BoundsAgree}
 use Rattle.tclv_interp.proofs.SameLemmas.{Same, Agree, EvaluatorsAgree, with_itself, if_same, bind_same, unit_same, variable_same}
-use Rattle.tclv_interp.proofs.RowBoundLemmas.{rows_agree}
+use Rattle.tclv_interp.proofs.RowBoundLemmas.{rows_agree, of_answer-same}
+use Rattle.tclv_model.specs.Values.{list_of}
 
 -- ---- words
 
@@ -47,7 +48,7 @@ substitution-agree n ev ev' h parts =
 
 expanded-same : (n : ℕ) (mark : Bool) (text : Text) → Agree n (expanded mark text) (expanded mark text)
 expanded-same n false text st u = with_itself u
-expanded-same n true text st u = with_itself u
+expanded-same n true text st u = of_answer-same n (list_of text) st u
 
 word-agree : (n : ℕ) (ev ev' : Evaluator) → EvaluatorsAgree n ev ev' → (w : Word) → Agree n (word ev w) (word ev' w)
 word-agree n ev ev' h w st u = bind_same (substitution-agree n ev ev' h (out-Word w).parts st u) (expanded-same n (out-Word w).expand)

@@ -5,7 +5,9 @@ use Rattle.std.specs.Prelude.{codes, IfOk, Result, Ok, Err}
 use Rattle.std.specs.Str.{chars}
 use Rattle.tclv_text.specs.Quotes.{quoted, quoted_some}
 use Rattle.tclv_interp.specs.declared.endings.ErrorCode.TheVariants.{NoCode, WrongArguments, UnknownCommand, UnknownVariable, NotNumber, Overflow}
-use Rattle.tclv_interp.specs.Results.{error_code}
+use Rattle.tclv_interp.specs.declared.endings.Leaving.TheVariants.{Break, Continue}
+use Rattle.tclv_interp.specs.Results.{code_options, plain_options, error_code}
+use Rattle.tclv_interp.specs.Answers.{options_of}
 
 pub if_ok-as : {T E : Type 0} (r : Result T E) (x y : T) → IfOk r (λ v. v ≡ x) → x ≡ y → IfOk r (λ v. v ≡ y)
 if_ok-as (Ok v) x y h e = h ∙ e
@@ -34,3 +36,17 @@ not_number name = refl
 pub overflow : (name : List ℕ) → chars (codes "ARITH IOVERFLOW {integer value too large to represent}") ≡ error_code Overflow name
 unfolding chars quoted quoted_some
 overflow name = refl
+
+-- ---- the options of codes
+
+pub ok_number : code_options (chars (codes "0")) ≡ plain_options
+unfolding chars
+ok_number = refl
+
+pub break_number : code_options (chars (codes "3")) ≡ options_of Break
+unfolding chars
+break_number = refl
+
+pub continue_number : code_options (chars (codes "4")) ≡ options_of Continue
+unfolding chars
+continue_number = refl

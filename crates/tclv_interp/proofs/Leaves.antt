@@ -2,14 +2,14 @@
 use Rattle.std.proofs.Common.{◌≡◌, ℕ, List, [], Result, Ok, Err, sym, ap, ◌∙◌, refl, subst, Some, arith}
 use Rattle.tclv_io.specs.World.{World}
 use Rattle.tclv_interp.specs.declared.endings.Leaving.{Leaving}
-use Rattle.tclv_interp.specs.declared.endings.Leaving.TheVariants.{Error}
+use Rattle.tclv_interp.specs.declared.endings.Leaving.TheVariants.{Error, Break, Continue}
 use Rattle.tclv_model.specs.declared.outcomes.Code.TheVariants as code
 use Rattle.tclv_interp.specs.declared.endings.End.{End}
 use Rattle.tclv_interp.specs.declared.endings.End.TheVariants as end
 use Rattle.tclv_interp.specs.declared.machine.Machine.{Machine}
 use Rattle.tclv_interp.specs.State.{Text, State, state_of}
 use Rattle.tclv_interp.specs.Results.{Ending, Done, Left, Budget, Exit, Res, ends, done, error, error_options, raise, error_code}
-use Rattle.tclv_interp.specs.Answers.{Outer, Start, Ends, Runs, code_of, options_of, last_of, SameState, Raises}
+use Rattle.tclv_interp.specs.Answers.{Outer, Start, Ends, Runs, code_of, options_of, last_of, SameState, Raises, LeavesEmpty}
 use Rattle.std.specs.Str.{chars}
 use Rattle.std.proofs.lemmas.Str.{chars-nil}
 use Rattle.tclv_model.specs.declared.messages.MessageId.{MessageId}
@@ -67,6 +67,8 @@ raised A text errorcode (end.Left (Error c)) shows old new w here told h k =
     ∙ ap (λ x. ends (Left code.Error text (error_options x)) (state_of new w)) k.0
     ∙ ap (λ st. error text errorcode st) (same_state old new w h))
     (left_runs told h.events)
+raised A text errorcode (end.Left Break) shows old new w here told h k = absurd k
+raised A text errorcode (end.Left Continue) shows old new w here told h k = absurd k
 raised A text errorcode end.Budget shows old new w here told h k = absurd k
 raised A text errorcode (end.Exit n) shows old new w here told h k = absurd k
 raised A text errorcode end.Device shows old new w here told h k = absurd k
@@ -78,8 +80,28 @@ pub raise_runs : {A T : Type 0} {text errorcode : Text} {e : End} {shows : A →
     Runs {T = T} (error text errorcode (state_of old w)) shows (record { world = w; torn = here.torn; events = old.writes }) (Err e) new here
 raise_runs {A} {T} {text} {errorcode} {e} {shows} {new} {w} {here} old told h k = raised {T = T} A text errorcode e shows old new w here told h k
 
-raises-as : (t t' c c' : Text) (stack : List Text) (e : End) → t ≡ t' → c ≡ c' → Raises t c stack e → Raises t' c' stack e
-raises-as t t' c c' stack e p q h = let P : Text → Type 0 = λ x. Raises x c stack e in let Q : Text → Type 0 = λ x. Raises t' x stack e in subst Q q (subst P p h)
+left-empty : {T : Type 0} (A : Type 0) (l : Leaving) (e : End) (shows : A → T → List Text → Type 0) (old new : Machine) (w : World) (here : Outer) →
+    here.told ≡ Some w → SameState old new → LeavesEmpty l new.values.store.stack e →
+    Runs {T = T} (ends (Left (code_of l) [] (options_of l)) (state_of old w)) shows (record { world = w; torn = here.torn; events = old.writes }) (Err e) new here
+left-empty A l (end.Left m) shows old new w here told h k =
+    runs_as
+    (ap (λ x. ends (Left (code_of m) x (options_of m)) (state_of new w)) k.1
+    ∙ ap (λ x. ends (Left (code_of x) [] (options_of x)) (state_of new w)) k.0
+    ∙ ap (λ st. ends (Left (code_of l) [] (options_of l)) st) (same_state old new w h))
+    (left_runs told h.events)
+left-empty A l end.Budget shows old new w here told h k = absurd k
+left-empty A l (end.Exit n) shows old new w here told h k = absurd k
+left-empty A l end.Device shows old new w here told h k = absurd k
+left-empty A l end.Memory shows old new w here told h k = no_memory told h.events
+
+-- a code with the empty text
+pub left_empty : {A T : Type 0} {e : End} {shows : A → T → List Text → Type 0} {new : Machine} {w : World} {here : Outer} (old : Machine) (l : Leaving) →
+    here.told ≡ Some w → SameState old new → LeavesEmpty l new.values.store.stack e →
+    Runs {T = T} (ends (Left (code_of l) [] (options_of l)) (state_of old w)) shows (record { world = w; torn = here.torn; events = old.writes }) (Err e) new here
+left_empty {A} {T} {e} {shows} {new} {w} {here} old l told h k = left-empty {T = T} A l e shows old new w here told h k
+
+pub raises_as : (t t' c c' : Text) (stack : List Text) (e : End) → t ≡ t' → c ≡ c' → Raises t c stack e → Raises t' c' stack e
+raises_as t t' c c' stack e p q h = let P : Text → Type 0 = λ x. Raises x c stack e in let Q : Text → Type 0 = λ x. Raises t' x stack e in subst Q q (subst P p h)
 
 -- an error, as a call raises it whose second part is empty
 pub raise_first : {A T : Type 0} {e : End} {shows : A → T → List Text → Type 0} {new : Machine} {w : World} {here : Outer} (old : Machine) (kind kind' : MessageId) (first : Text) (errorcode errorcode' : ErrorCode) →
@@ -88,7 +110,7 @@ pub raise_first : {A T : Type 0} {e : End} {shows : A → T → List Text → Ty
     Runs {T = T} (raise kind' first [] errorcode' (state_of old w)) shows (record { world = w; torn = here.torn; events = old.writes }) (Err e) new here
 raise_first {e = e} {new = new} old kind kind' first errorcode errorcode' told h p q k =
     raise_runs old told h
-    (raises-as _ _ _ _ new.values.store.stack e (ap (λ x. text_of x first (chars [])) p ∙ ap (λ x. text_of kind' first x) chars-nil) (ap (λ x. error_code x first) q) k)
+    (raises_as _ _ _ _ new.values.store.stack e (ap (λ x. text_of x first (chars [])) p ∙ ap (λ x. text_of kind' first x) chars-nil) (ap (λ x. error_code x first) q) k)
 
 -- the same, where both parts are empty
 pub raise_bare : {A T : Type 0} {e : End} {shows : A → T → List Text → Type 0} {new : Machine} {w : World} {here : Outer} (old : Machine) (kind kind' : MessageId) (errorcode errorcode' : ErrorCode) →
@@ -97,7 +119,7 @@ pub raise_bare : {A T : Type 0} {e : End} {shows : A → T → List Text → Typ
     Runs {T = T} (raise kind' [] [] errorcode' (state_of old w)) shows (record { world = w; torn = here.torn; events = old.writes }) (Err e) new here
 raise_bare {e = e} {new = new} old kind kind' errorcode errorcode' told h p q k =
     raise_runs old told h
-    (raises-as _ _ _ _ new.values.store.stack e
+    (raises_as _ _ _ _ new.values.store.stack e
     (ap (λ x. text_of x (chars []) (chars [])) p ∙ ap (λ x. text_of kind' x (chars [])) chars-nil ∙ ap (λ x. text_of kind' [] x) chars-nil)
     (ap (λ x. error_code x (chars [])) q ∙ ap (λ x. error_code errorcode' x) chars-nil) k)
 

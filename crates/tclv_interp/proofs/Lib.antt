@@ -2,7 +2,6 @@ pub mod EventLemmas
 pub mod Binds
 pub mod Leaves
 pub mod UnitLemmas
-pub mod MessageLemmas
 pub mod CodeLemmas
 pub mod HoldingsLemmas
 pub mod NameLemmas
@@ -19,10 +18,16 @@ pub mod Depths
 pub mod Handed
 pub mod PartLemmas
 pub mod WordLemmas
+pub mod DataLemmas
+pub mod CellLemmas
+pub mod ListLemmas
 pub mod WholeLemmas
 pub mod ChannelLemmas
 pub mod RunLemmas
 pub mod PutLemmas
 pub mod VariableRowLemmas
 pub mod SettingLemmas
+pub mod ExpandLemmas
+pub mod ScriptRowLemmas
+pub mod LoopRowLemmas
 pub mod InterpreterLemmas

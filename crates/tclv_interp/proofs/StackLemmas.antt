@@ -66,7 +66,7 @@ pub keeps_all : (base : List Text) → Keeps base base
 keeps_all base = record { kept = take_all (length base) base (omega arith); some = omega arith }
 
 -- what is over a base that is over another
-take-under : (base mid stack : List Text) → length base ≤ length mid → take (length mid) stack ≡ mid → take (length base) mid ≡ base → take (length base) stack ≡ base
+pub take-under : (base mid stack : List Text) → length base ≤ length mid → take (length mid) stack ≡ mid → take (length base) mid ≡ base → take (length base) stack ≡ base
 take-under base mid stack h e f =
     sym (take-take (length base) (length mid) stack h) ∙ ap (take (length base)) e ∙ f
 

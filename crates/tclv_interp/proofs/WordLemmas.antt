@@ -17,7 +17,7 @@ use Rattle.tclv_interp.specs.Holdings.{Holdings, SameVariables}
 use Rattle.tclv_interp.specs.declared.endings.ErrorCode.TheVariants.{WrongArguments}
 use Rattle.tclv_interp.specs.declared.endings.End.{End}
 use Rattle.tclv_interp.specs.declared.endings.End.TheVariants as end
-use Rattle.tclv_interp.specs.declared.endings.Leaving.TheVariants.{Error}
+use Rattle.tclv_interp.specs.declared.endings.Leaving.TheVariants.{Error, Break, Continue}
 use Rattle.tclv_interp.specs.declared.machine.Machine.{Machine}
 use Rattle.tclv_interp.specs.State.{Text, State, state_of}
 use Rattle.tclv_interp.specs.Results.{Res, raise, error_code}
@@ -48,12 +48,21 @@ top_three stack i e =
     ap (λ n. drop n stack) b
     ∙ word_more stack i (i + 1) _ refl (omega (arith, e)) (word_more stack (i + 1) (i + 2) _ (omega arith) (omega (arith, e)) (one_word stack (i + 2) (omega (arith, e))))
 
+four_words : (stack : List Text) (i : ℕ) → i + 4 ≡ length stack → drop i stack ≡ get_or stack i [] ∷ get_or stack (i + 1) [] ∷ get_or stack (i + 2) [] ∷ get_or stack (i + 3) [] ∷ []
+four_words stack i e =
+    word_more stack i (i + 1) _ refl (omega (arith, e))
+    (word_more stack (i + 1) (i + 2) _ (omega arith) (omega (arith, e)) (word_more stack (i + 2) (i + 3) _ (omega arith) (omega (arith, e)) (one_word stack (i + 3) (omega (arith, e)))))
+
 pub top_four : (stack : List Text) (i : ℕ) → i + 4 ≡ length stack → top 4 stack ≡ get_or stack i [] ∷ get_or stack (i + 1) [] ∷ get_or stack (i + 2) [] ∷ get_or stack (i + 3) [] ∷ []
 top_four stack i e =
     let b : length stack - 4 ≡ i = omega (arith, e) in
-    ap (λ n. drop n stack) b
-    ∙ word_more stack i (i + 1) _ refl (omega (arith, e))
-    (word_more stack (i + 1) (i + 2) _ (omega arith) (omega (arith, e)) (word_more stack (i + 2) (i + 3) _ (omega arith) (omega (arith, e)) (one_word stack (i + 3) (omega (arith, e)))))
+    ap (λ n. drop n stack) b ∙ four_words stack i e
+
+pub top_five : (stack : List Text) (i low : ℕ) → low ≡ i + 1 → i + 5 ≡ length stack →
+    top 5 stack ≡ get_or stack i [] ∷ get_or stack low [] ∷ get_or stack (low + 1) [] ∷ get_or stack (low + 2) [] ∷ get_or stack (low + 3) [] ∷ []
+top_five stack i low l e =
+    let b : length stack - 5 ≡ i = omega (arith, e) in
+    ap (λ n. drop n stack) b ∙ word_more stack i low _ l (omega (arith, l, e)) (four_words stack low (omega (arith, l, e)))
 
 pub top_length : (stack : List Text) (n : ℕ) → n ≤ length stack → length (top n stack) ≡ n
 top_length stack n h = omega (arith, length-drop (length stack - n) stack)
@@ -131,7 +140,7 @@ under_kept n base now h =
 above_under : (n : ℕ) (base now : List Text) → Above base now → Above (under n base) now
 above_under n base now h = record { kept = under_kept n base now h.kept; some = omega (arith, h.some, length-take (length base - n) base) }
 
-over_above : (base now : List Text) → Over 1 base now → Above base now
+pub over_above : (base now : List Text) → Over 1 base now → Above base now
 over_above base now h = record { kept = h.kept; some = omega (arith, h.count_is) }
 
 -- A result over the whole stack is one over what is below the words.
@@ -156,6 +165,8 @@ one_under n base (Err end.Memory) now h = tt
 -- an error is no fault of a device
 pub raises_caused : (T : Type 0) (text errorcode : Text) (stack : List Text) (e : End) (before now : ℕ) → Raises text errorcode stack e → now ≡ before → Caused {T = T} before now (Err e)
 raises_caused T text errorcode stack (end.Left (Error c)) before now h k = k
+raises_caused T text errorcode stack (end.Left Break) before now h k = absurd h
+raises_caused T text errorcode stack (end.Left Continue) before now h k = absurd h
 raises_caused T text errorcode stack end.Budget before now h k = absurd h
 raises_caused T text errorcode stack (end.Exit s) before now h k = absurd h
 raises_caused T text errorcode stack end.Device before now h k = absurd h

@@ -1,5 +1,5 @@
 -- When a call answers as a computation of the meaning says.
-use Rattle.std.specs.Prelude.{◌≡◌, ℕ, ◌+◌, ◌-◌, ◌<◌, ◌≤◌, List, [], ◌∷◌, ◌++◌, length, take, slice_index_or, Option, Some, Result, Ok, Err}
+use Rattle.std.specs.Prelude.{◌≡◌, ℕ, ◌+◌, ◌-◌, ◌<◌, ◌≤◌, List, [], ◌∷◌, ◌++◌, length, take, slice_index_or, Option, Some, Result, Ok, Err, codes}
 use Rattle.tclv_io.specs.World.{World}
 use Rattle.tclv_io.specs.Causes.{Rose}
 use Rattle.tclv_io.specs.Events.{Event, after_all, partly, next_length}
@@ -7,13 +7,13 @@ use Rattle.tclv_model.specs.declared.outcomes.Code.{Code}
 use Rattle.tclv_model.specs.declared.outcomes.Code.TheVariants as code
 use Rattle.tclv_model.specs.declared.outcomes.Pair.{Pair}
 use Rattle.tclv_interp.specs.declared.endings.Leaving.{Leaving}
-use Rattle.tclv_interp.specs.declared.endings.Leaving.TheVariants.{Error}
+use Rattle.tclv_interp.specs.declared.endings.Leaving.TheVariants.{Error, Break, Continue}
 use Rattle.tclv_interp.specs.declared.endings.End.{End}
 use Rattle.tclv_interp.specs.declared.endings.End.TheVariants as end
 use Rattle.tclv_interp.specs.declared.machine.Machine.{Machine}
 use Rattle.tclv_interp.specs.Holdings.{SameVariables}
 use Rattle.tclv_interp.specs.State.{Text, State, state_of}
-use Rattle.tclv_interp.specs.Results.{Ending, Done, Left, Budget, Exit, Res, Outcome, plain_options, error_options}
+use Rattle.tclv_interp.specs.Results.{Ending, Done, Left, Budget, Exit, Res, Outcome, code_options, plain_options, error_options}
 
 -- ---- the stack
 
@@ -99,9 +99,13 @@ start a w torn = record { world = w; torn = torn; events = a.writes }
 -- the code of what isn't ok, and its options
 abbrev pub code_of : Leaving → Code
 code_of (Error errorcode) = code.Error
+code_of Break = code.Break
+code_of Continue = code.Continue
 
 abbrev pub options_of : Leaving → List Pair
 options_of (Error errorcode) = error_options errorcode
+options_of Break = code_options (codes "3")
+options_of Continue = code_options (codes "4")
 
 -- The ending and the state after are those of m, all its events happened, and no write failed.
 pub record Ends {A : Type 0} (m : Res A) (s : Start) (e : Ending A) (after : Machine) (w : World) (torn : ℕ) : Type 0 where
@@ -184,10 +188,20 @@ pub record SameState (old new : Machine) : Type 0 where
 -- an error with this text, which is on top of the stack, and this error code; or memory ran out
 abbrev pub Raises : Text → Text → List Text → End → Type 0
 Raises text errorcode stack (end.Left (Error c)) = (c ≡ errorcode) × (last_of stack ≡ text)
+Raises text errorcode stack (end.Left Break) = ⊥
+Raises text errorcode stack (end.Left Continue) = ⊥
 Raises text errorcode stack end.Budget = ⊥
 Raises text errorcode stack (end.Exit n) = ⊥
 Raises text errorcode stack end.Device = ⊥
 Raises text errorcode stack end.Memory = Unit {0}
+
+-- a code, and the empty text, which is on top of the stack; or memory ran out
+abbrev pub LeavesEmpty : Leaving → List Text → End → Type 0
+LeavesEmpty code stack (end.Left l) = (l ≡ code) × (last_of stack ≡ [])
+LeavesEmpty code stack end.Budget = ⊥
+LeavesEmpty code stack (end.Exit n) = ⊥
+LeavesEmpty code stack end.Device = ⊥
+LeavesEmpty code stack end.Memory = Unit {0}
 
 -- ---- causes
 

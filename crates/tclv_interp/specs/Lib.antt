@@ -11,7 +11,12 @@ pub mod Evaluation
 pub mod Bounds
 pub mod Usages
 pub mod WholeNumbers
+pub mod DataRows
+pub mod CellRows
+pub mod ListAssignment
 pub mod ChannelRows
 pub mod RunRows
 pub mod VariableRows
+pub mod LoopRows
+pub mod ScriptRows
 pub mod Interpreters

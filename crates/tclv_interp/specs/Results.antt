@@ -51,9 +51,13 @@ bind first next =
 abbrev pub option : Text → Text → Pair
 option key value = record { key = key; value = value }
 
+-- the options of a code with this number, which has none of its own
+abbrev pub code_options : Text → List Pair
+code_options number = option (codes "-code") number ∷ option (codes "-level") (codes "0") ∷ []
+
 -- the options of an ok that keeps none of its own
 abbrev pub plain_options : List Pair
-plain_options = option (codes "-code") (codes "0") ∷ option (codes "-level") (codes "0") ∷ []
+plain_options = code_options (codes "0")
 
 -- the options of an error
 abbrev pub error_options : Text → List Pair

@@ -9,6 +9,8 @@ use Rattle.tclv_model.specs.declared.messages.MessageId.TheVariants as message
 use Rattle.tclv_interp.specs.declared.endings.ErrorCode.TheVariants.{NoCode}
 use Rattle.tclv_interp.specs.State.{Text, State}
 use Rattle.tclv_interp.specs.Results.{Res, Outcome, done, bind, raise}
+use Rattle.tclv_model.specs.Values.{list_of}
+use Rattle.tclv_interp.specs.DataRows.{of_answer}
 use Rattle.tclv_interp.specs.Variables.{variable, not_built}
 
 -- What evaluates scripts, as it is handed to what they stand in: a script, in an evaluation of its own.
@@ -47,10 +49,10 @@ max_levels = 100
 abbrev pub substitution : Evaluator → List Part → State → Res Text
 substitution ev parts st = joined (part_value max_levels ev) [] parts st
 
--- The words that a text gives. One with the expansion mark is read as a list; that isn't built yet.
+-- The words that a text gives. One with the expansion mark is read as a list, whose elements are the words.
 abbrev pub expanded : Bool → Text → State → Res (List Text)
 expanded false text st = done (text ∷ []) st
-expanded true text st = not_built st
+expanded true text st = of_answer (list_of text) st
 
 abbrev pub word : Evaluator → Word → State → Res (List Text)
 word ev w st = bind (substitution ev (out-Word w).parts st) (λ text s1. expanded (out-Word w).expand text s1)

@@ -5,6 +5,8 @@ ghost use Rattle.tclv_value.specs.View.{HasPlace, IsMade, text_at};
 ghost use Rattle.tclv_interp.specs.Builtins as spec;
 ghost use Rattle.tclv_interp.specs.Answers.{Answers, KeepsStack, IsCalm, returned};
 
+use crate::cell_commands::CellCommand;
+use crate::data_commands::DataCommand;
 use crate::endings::{End, ErrorCode};
 use crate::machine::Machine;
 use crate::names::is_qualified;
@@ -16,8 +18,16 @@ use tclv_value::At;
 #[derive(Clone, Copy, Debug, PartialEq, Eq)]
 pub enum Builtin {
     Append,
+    Break,
+    /// A data command that is handed a variable.
+    Cell(CellCommand),
+    Continue,
+    /// A data command.
+    Data(DataCommand),
+    Eval,
     Exit,
     Incr,
+    Lassign,
     Puts,
     Set,
 }
@@ -29,10 +39,32 @@ pub fn builtin_of(name: &[u8]) -> Option<Builtin>
 {
     match as_str(name) {
         "append" => Some(Builtin::Append),
+        "break" => Some(Builtin::Break),
+        "concat" => Some(Builtin::Data(DataCommand::Concat)),
+        "continue" => Some(Builtin::Continue),
+        "eval" => Some(Builtin::Eval),
         "exit" => Some(Builtin::Exit),
         "incr" => Some(Builtin::Incr),
+        "join" => Some(Builtin::Data(DataCommand::Join)),
+        "lappend" => Some(Builtin::Cell(CellCommand::Lappend)),
+        "lassign" => Some(Builtin::Lassign),
+        "lindex" => Some(Builtin::Data(DataCommand::Lindex)),
+        "linsert" => Some(Builtin::Data(DataCommand::Linsert)),
+        "list" => Some(Builtin::Data(DataCommand::List)),
+        "llength" => Some(Builtin::Data(DataCommand::Llength)),
+        "lpop" => Some(Builtin::Cell(CellCommand::Lpop)),
+        "lrange" => Some(Builtin::Data(DataCommand::Lrange)),
+        "lremove" => Some(Builtin::Data(DataCommand::Lremove)),
+        "lrepeat" => Some(Builtin::Data(DataCommand::Lrepeat)),
+        "lreplace" => Some(Builtin::Data(DataCommand::Lreplace)),
+        "lreverse" => Some(Builtin::Data(DataCommand::Lreverse)),
+        "lsearch" => Some(Builtin::Data(DataCommand::Lsearch)),
+        "lseq" => Some(Builtin::Data(DataCommand::Lseq)),
+        "lset" => Some(Builtin::Cell(CellCommand::Lset)),
+        "lsort" => Some(Builtin::Data(DataCommand::Lsort)),
         "puts" => Some(Builtin::Puts),
         "set" => Some(Builtin::Set),
+        "split" => Some(Builtin::Data(DataCommand::Split)),
         _ => None,
     }
 }

@@ -6,7 +6,7 @@ ghost use Rattle.tclv_io.specs.World.{World};
 ghost use Rattle.tclv_value.specs.View.{HasPlace};
 ghost use Rattle.tclv_interp.specs.Answers as answers;
 ghost use Rattle.tclv_interp.specs.Answers.{outer, AtWorld, SameState, last_of};
-ghost use Rattle.tclv_interp.specs.Results.{option, plain_options, error_options};
+ghost use Rattle.tclv_interp.specs.Results.{option, code_options, plain_options, error_options};
 ghost use Rattle.tclv_interp.specs.Variables.{assign, is_unbuilt};
 ghost use Rattle.tclv_interp.specs.Interpreters.{state_over, blank, writes_of, evaluation, script_at, result_of, options_at, is_stopped, Evaluates, HasResult, Shows, StopCause, StopsAt};
 
@@ -36,14 +36,21 @@ fn option_of(alloc: Global, key: &str, value: &[u8]) -> Result<Pair, NoMemory>
     })
 }
 
+// The options of a code with this number, which has none of its own.
+fn code_options(alloc: Global, number: &str) -> Result<Options, NoMemory>
+    ensures { IfOk result (λ options. options ≡ code_options (chars number.now)) }
+{
+    let mut options = Options::new(alloc);
+    options.push(option_of(alloc, "-code", number.as_bytes())?)?;
+    options.push(option_of(alloc, "-level", b"0")?)?;
+    Ok(options)
+}
+
 // The options of an ok that keeps none of its own.
 fn plain_options(alloc: Global) -> Result<Options, NoMemory>
     ensures { IfOk result (λ options. options ≡ plain_options) }
 {
-    let mut options = Options::new(alloc);
-    options.push(option_of(alloc, "-code", b"0")?)?;
-    options.push(option_of(alloc, "-level", b"0")?)?;
-    Ok(options)
+    code_options(alloc, "0")
 }
 
 // The options of an error.
@@ -63,6 +70,8 @@ fn code_of(leaving: &Leaving) -> Code
 {
     match leaving {
         Leaving::Error(_) => Code::Error,
+        Leaving::Break => Code::Break,
+        Leaving::Continue => Code::Continue,
     }
 }
 
@@ -72,6 +81,8 @@ fn options_of(alloc: Global, leaving: &Leaving) -> Result<Options, NoMemory>
 {
     match leaving {
         Leaving::Error(errorcode) => error_options(alloc, errorcode),
+        Leaving::Break => code_options(alloc, "3"),
+        Leaving::Continue => code_options(alloc, "4"),
     }
 }
 

@@ -25,6 +25,10 @@ pub enum ErrorCode {
 pub enum Leaving {
     /// An error, with its error code.
     Error(Text),
+    /// The loop around is to end.
+    Break,
+    /// The loop around is to go on with its next turn.
+    Continue,
 }
 
 /// An ending that isn't ok.

@@ -85,6 +85,7 @@ impl Machine {
     }
 
     /// What the top n texts do, as the words of a command.
+    #[cycle(eval)]
     fn call<O: Outside>(&mut self, out: &mut O, n: usize) -> Result<(), End>
         requires { n ≤ length self.old.values.store.stack }
         ensures answer { AtBounds self.old.units (λ bound. AnswersOver (spec.call (spec.evaluator bound) (top n self.old.values.store.stack)) as_result self.old (outer (O.told out.old) (O.torn out.old)) result self.new (outer (O.told out.new) (O.torn out.new))) }
@@ -100,6 +101,7 @@ impl Machine {
     }
 
     /// Chooses the row of a command.
+    #[cycle(eval)]
     #[tactic(auto, using(crate::proofs::Binds::calm_caused))]
     fn dispatch<O: Outside>(&mut self, out: &mut O, builtin: Builtin, n: usize) -> Result<(), End>
         requires words { n ≤ length self.old.values.store.stack }
@@ -111,8 +113,14 @@ impl Machine {
     {
         match builtin {
             Builtin::Append => self.cmd_append(n),
+            Builtin::Break => self.cmd_break(n),
+            Builtin::Cell(command) => self.cmd_cell(command, n),
+            Builtin::Continue => self.cmd_continue(n),
+            Builtin::Data(command) => self.cmd_data(command, n),
+            Builtin::Eval => self.cmd_eval(out, n),
             Builtin::Exit => self.cmd_exit(n),
             Builtin::Incr => self.cmd_incr(n),
+            Builtin::Lassign => self.cmd_lassign(n),
             Builtin::Puts => self.cmd_puts(n, out),
             Builtin::Set => self.cmd_set(n),
         }
@@ -142,7 +150,7 @@ impl Machine {
     {
         self.substitute(out, &word.parts, MAX_LEVELS)?;
         if word.expand {
-            return Err(self.not_built());
+            return self.expand();
         }
         Ok(())
     }

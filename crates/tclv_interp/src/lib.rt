@@ -7,19 +7,25 @@
 
 mod builtins;
 mod calls;
+mod cell_commands;
 mod channel_commands;
 mod channels;
+mod data_commands;
 mod endings;
 mod evaluation;
+mod expanding;
 mod faults;
 mod interpreters;
 pub mod laws;
+mod list_assignment;
+mod loop_commands;
 mod machine;
 mod messages;
 mod names;
 mod pushing;
 mod raising;
 mod run_commands;
+mod script_commands;
 mod units;
 mod values;
 mod variable_commands;

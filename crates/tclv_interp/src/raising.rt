@@ -5,7 +5,7 @@ ghost use Rattle.tclv_text.specs.Texts.{IsText};
 ghost use Rattle.tclv_value.specs.View.{HasPlace, text_at};
 ghost use Rattle.tclv_model.specs.Message.{text_of};
 ghost use Rattle.tclv_interp.specs.Results.{error_code};
-ghost use Rattle.tclv_interp.specs.Answers.{Raises, SameState, KeepsStack};
+ghost use Rattle.tclv_interp.specs.Answers.{Raises, LeavesEmpty, SameState, KeepsStack};
 
 use crate::endings::{End, ErrorCode, Leaving};
 use crate::machine::Machine;
@@ -65,6 +65,18 @@ impl Machine {
     {
         let texts = error_texts(self.alloc, kind, first, second, errorcode);
         self.throw(texts)
+    }
+
+    /// Leaves with a code that isn't an error's, and the empty text as its result.
+    pub fn leave(&mut self, code: Leaving) -> End
+        ensures leaves { LeavesEmpty code self.new.values.store.stack result }
+        ensures same { SameState self.old self.new }
+        ensures stack { KeepsStack {T = Unit {0}} self.old.values.store.stack (Err result) self.new.values.store.stack }
+    {
+        match self.values.push_text(b"") {
+            Ok(()) => End::Left(code),
+            Err(_) => End::Memory,
+        }
     }
 
     /// Raises an error, where the first part of its message is the text of a place.

@@ -1,5 +1,5 @@
 // The values of a run: a stack of texts, and variables.
-ghost use Rattle.std.specs.Prelude.{◌≡◌, ◌-◌, ◌<◌, ◌≤◌, ◌++◌, [], ◌∷◌, length, take, Ok, Err, IfOk, IfErr, OnOk, OnErr, slice_set, None, Some};
+ghost use Rattle.std.specs.Prelude.{◌≡◌, ◌+◌, ◌-◌, ◌<◌, ◌≤◌, ◌++◌, [], ◌∷◌, length, take, Ok, Err, IfOk, IfErr, OnOk, OnErr, slice_set, None, Some, slice_index_or};
 ghost use Rattle.std.specs.Str.{chars};
 ghost use Rattle.std.specs.FinMap as finite;
 ghost use Rattle.tclv_text.specs.Texts.{IsText};
@@ -7,12 +7,18 @@ ghost use Rattle.tclv_text.specs.Numbers.{whole, whole_text};
 ghost use Rattle.tclv_parse.specs.Grammar.{commands};
 ghost use Rattle.tclv_vars.specs.Table.{no_variables, read, write, Refuses};
 ghost use Rattle.tclv_value.specs.View.{HasPlace, text_at, IsMade};
+ghost use Rattle.tclv_value.specs.Stacks.{top, under};
+ghost use Rattle.tclv_lists.specs.Joining.{concatenated};
 
+use crate::cell_commands::{CellCommand, run_cell, unsettable};
+use crate::data_commands::{DataCommand, run_data};
 use std::alloc::Global;
 use std::marker::Model;
 use std::rc::Rc;
+use tclv_lists::{Elements, cmd_concat, list_elements};
+use tclv_model::{CmdFault, VarState};
 use tclv_parse::Script;
-use tclv_text::{NoMemory, Stats};
+use tclv_text::{NoMemory, Stats, Text};
 use tclv_value::{At, Store, ValueFault};
 use tclv_vars::{Place, VarFault, Vars};
 
@@ -51,9 +57,26 @@ fn lent(store: &Store, at: At) -> &[u8]
     }
 }
 
+// A copy of the text of a place, which is made.
+fn copied(store: &Store, at: At) -> Result<Text, NoMemory>
+    requires place { HasPlace store.now at }
+    requires made { IsMade store.now at }
+    ensures { IfOk result (λ text. text ≡ text_at store.now at) }
+{
+    let bytes = Vec::from_slice(store.allocator(), lent(store, at))?;
+    Ok(Text::new(bytes))
+}
+
 impl Values {
     ghost use Rattle.tclv_value.specs.declared.places.At.TheVariants.{Stack, Cell};
+    ghost use Rattle.tclv_text.specs.Quotes.{list_text};
+    ghost use Rattle.tclv_model.specs.Values.{list_of};
+    ghost use Rattle.tclv_value.specs.Stacks.{top, under};
     ghost use Rattle.tclv_value.specs.View.{StaysMade};
+    ghost use Rattle.tclv_lists.specs.Replies as replies;
+    ghost use Rattle.tclv_model.specs.Rows.{Unset, WholeArray};
+    ghost use Rattle.tclv_interp.specs.DataRows.{row_of};
+    ghost use Rattle.tclv_interp.specs.CellRows as cells;
     ghost use Rattle.tclv_value.specs.Answers.{RefusesWhole};
     ghost use Rattle.tclv_interp.specs.Holdings.{Sets, SameVariables, Assigned};
     ghost use Rattle.tclv_interp.specs.Names.{bytes_of};
@@ -170,6 +193,18 @@ impl Values {
         self.store.script(at)
     }
 
+    /// Puts the text that `concat` makes of the top n texts in their place, over another text.
+    pub fn concat(&mut self, n: usize) -> Result<(), NoMemory>
+        requires { n + 1 ≤ length self.old.store.stack }
+        ensures joined { OnOk result (self.new.store.stack ≡ under n self.old.store.stack ++ concatenated (top n self.old.store.stack) ∷ []) }
+        ensures same { SameVariables self.old self.new }
+    {
+        let Ok(()) = cmd_concat(&mut self.store, n) else {
+            return Err(NoMemory);
+        };
+        Ok(())
+    }
+
     /// The cell of the variable of this name, which has a text. Refuses as `tclv_vars::Vars::read`
     /// does. Takes no memory.
     pub fn cell_named(&self, name: &[u8]) -> Result<u64, VarFault>
@@ -266,6 +301,111 @@ impl Values {
     {
         self.make_text(name)?;
         self.write_top(name)
+    }
+
+    /// The elements of the list that the text of a place is. No text changes; where the text is no
+    /// list, the message and the error code are pushed.
+    pub fn elements(&mut self, list: At) -> Result<Elements, CmdFault>
+        requires { HasPlace self.old.store list }
+        ensures read { replies.Reads (list_of (text_at self.old.store list)) (λ ts x. x ≡ ts) self.old.store self.new.store result }
+        ensures same { SameVariables self.old self.new }
+    {
+        list_elements(&mut self.store, list)
+    }
+
+    /// Makes one text of the top `n`: their list, the lowest of them first.
+    pub fn push_list(&mut self, n: usize) -> Result<(), NoMemory>
+        requires { n ≤ length self.old.store.stack }
+        ensures pushed { OnOk result (self.new.store.stack ≡ under n self.old.store.stack ++ list_text (top n self.old.store.stack) ∷ []) }
+        ensures same { SameVariables self.old self.new }
+    {
+        self.store.push_list(n)
+    }
+
+    /// The call of a data command: its words are the top `n` texts of the stack, above the word of
+    /// the call. On `Ok` the result stands in their place; on a refusal the message and the error
+    /// code do.
+    pub fn data(&mut self, command: DataCommand, n: usize) -> Result<(), CmdFault>
+        requires { n + 1 ≤ length self.old.store.stack }
+        ensures answer { replies.Answers (row_of command (replies.call_word n self.old.store.stack) (top n self.old.store.stack)) n self.old.store self.new.store result }
+        ensures same { SameVariables self.old self.new }
+    {
+        run_data(&mut self.store, command, n)
+    }
+
+    /// The call of a data command on a variable without words.
+    pub fn change_none(&mut self, command: CellCommand) -> Result<(), CmdFault>
+        requires { 1 ≤ length self.old.store.stack }
+        ensures answer { replies.VarAnswers (cells.row_of command (replies.call_word 0 self.old.store.stack) (top 0 self.old.store.stack) Unset) VarState.NoName 0 self.old.store self.new.store result }
+        ensures same { SameVariables self.old self.new }
+    {
+        run_cell(&mut self.store, command, VarState::NoName, 0)
+    }
+
+    /// The call of a data command on a whole array.
+    pub fn change_array(&mut self, command: CellCommand, n: usize) -> Result<(), CmdFault>
+        requires words { n + 1 ≤ length self.old.store.stack }
+        requires some { 0 < n }
+        ensures answer { replies.VarAnswers (cells.row_of command (replies.call_word n self.old.store.stack) (top n self.old.store.stack) WholeArray) VarState.IsArray n self.old.store self.new.store result }
+        ensures same { SameVariables self.old self.new }
+    {
+        run_cell(&mut self.store, command, VarState::IsArray, n)
+    }
+
+    /// The call of a data command on the variable that the first of its words names, which is made:
+    /// its words are the top `n` texts of the stack, above the word of the call. On `Ok` the result
+    /// stands in their place; on a refusal the message and the error code do, and the variables are
+    /// as before.
+    pub fn change(&mut self, command: CellCommand, n: usize) -> Result<(), CmdFault>
+        requires words { n + 1 ≤ length self.old.store.stack }
+        requires some { 0 < n }
+        requires made { IsMade self.old.store (Stack (length self.old.store.stack - n)) }
+        ensures { cells.Changes (cells.row_of command (replies.call_word n self.old.store.stack) (top n self.old.store.stack)) n (bytes_of (slice_index_or self.old.store.stack (length self.old.store.stack - n) [])) self.old self.new result }
+    {
+        let name = At::Stack(self.store.height() - n);
+        match self.vars.read(Place::Frame, lent(&self.store, name), None) {
+            Ok(cell) => run_cell(&mut self.store, command, VarState::Cell(cell), n),
+            Err(_) => self.change_unset(command, n),
+        }
+    }
+
+    // The same, where the variable may be unset.
+    fn change_unset(&mut self, command: CellCommand, n: usize) -> Result<(), CmdFault>
+        requires words { n + 1 ≤ length self.old.store.stack }
+        requires some { 0 < n }
+        requires made { IsMade self.old.store (Stack (length self.old.store.stack - n)) }
+        ensures { cells.Changes (cells.row_of command (replies.call_word n self.old.store.stack) (top n self.old.store.stack)) n (bytes_of (slice_index_or self.old.store.stack (length self.old.store.stack - n) [])) self.old self.new result }
+    {
+        let at = At::Stack(self.store.height() - n);
+        let name = copied(&self.store, at)?;
+        self.change_named(command, name.bytes(), n)
+    }
+
+    // The same, where the name is none of the store's texts.
+    fn change_named(&mut self, command: CellCommand, name: &[u8], n: usize) -> Result<(), CmdFault>
+        requires words { n + 1 ≤ length self.old.store.stack }
+        requires some { 0 < n }
+        requires name { IsText name.now }
+        ensures { cells.Changes (cells.row_of command (replies.call_word n self.old.store.stack) (top n self.old.store.stack)) n name.now self.old self.new result }
+    {
+        let lacked = self.vars.missing(Place::Frame, name, None);
+        match self.vars.write(Place::Frame, name, None) {
+            Ok((cell, fresh)) => {
+                match run_cell(&mut self.store, command, VarState::Cell(cell), n) {
+                    Ok(()) => Ok(()),
+                    Err(kind) => {
+                        if fresh {
+                            self.vars.take_back(Place::Frame, name, None, lacked);
+                        }
+                        Err(kind)
+                    }
+                }
+            }
+            Err(fault) => match unsettable(fault) {
+                Some(variable) => run_cell(&mut self.store, command, variable, n),
+                None => Err(CmdFault::NoMemory),
+            },
+        }
     }
 
     /// How much work was done.

@@ -1,22 +1,24 @@
 -- A file that is read from its start: the bytes so far and what is left.
-use Rattle.std.proofs.Common.{◌≡◌, ℕ, ◌+◌, ◌-◌, ◌<◌, ◌≤◌, ◌^◌, Bool, true, false, cond, List, [], ◌∷◌, ◌++◌, length, take, drop, sym, ◌∙◌, ap, refl, subst, arith, append_assoc, length-append, Some, None, Ok}
+use Rattle.std.proofs.Common.{◌≡◌, ℕ, ◌<◌, ◌≤◌, ◌^◌, Bool, true, false, cond, List, [], ◌++◌, length, take, drop, sym, ◌∙◌, ap, refl, subst, arith, append_assoc, length-append, Some, None, Ok}
 use Rattle.std.specs.Prelude.{Option, IsTrue, is_some, nat_eq}
 use Rattle.std.proofs.lemmas.List.{append-nil, drop-drop, take-append-drop, drop_all, take-append-le, take-take}
 use Rattle.std.specs.FinMap as map
-use Rattle.std.specs.FinMap.{get-insert}
+use Rattle.std.specs.FinMap.{get-insert, get-remove, get_tied, same_map, nat_cmp-IsAntisymmetric}
 use Rattle.std.specs.Cmp.{nat_cmp_total, nat_cmp_is}
 use Rattle.std.specs.Ordering.{nat_cmp, eq_by_cmp, is_eq}
-use Rattle.std.specs.declared.cmp.Ordering.TheVariants.{Equal}
-use Rattle.tclv_io.specs.World.{World, Opened, can_read, can_close, left, left_of, taken_from, read_on, bytes_at, is_reading, ReadAnswers, after_read}
+use Rattle.std.specs.declared.cmp.Ordering.{Ordering}
+use Rattle.std.specs.declared.cmp.Ordering.TheVariants.{Less, Equal, Greater}
+use Rattle.tclv_io.specs.World.{World, Opened, can_read, can_close, left, taken_from, read_on, bytes_at, ReadAnswers, after_read, closed, OpenAnswers, WhereTold}
 use Rattle.tclv_io.specs.Events.{shown}
 use Rattle.tclv_io.specs.declared.outside.Failed.{Failed}
 use Rattle.std.specs.Prelude.{Result, Err, unwrap_or}
 use Rattle.std.specs.Option.{option_map}
+use Rattle.std.specs.Str.{IsUtf8, is_utf8}
+use Rattle.std.proofs.lemmas.Str.{IsUtf8-from_is_utf8}
 use Rattle.tclv_shell.specs.Halts.{Seen, SeesSame}
-use Rattle.tclv_shell.specs.Loaded.{IsWhole, Gives}
-use Rattle.tclv_shell.specs.declared.script_files.Loaded.TheVariants.{Missing, TooLarge, Text}
-use Rattle.std.specs.Prelude.{Vec}
-use Rattle.std.specs.declared.alloc.Global.{Global}
+use Rattle.tclv_shell.specs.Loaded.{IsWhole, Judged, Found}
+use Rattle.tclv_shell.specs.declared.script_files.Loaded.{Loaded}
+use Rattle.tclv_shell.specs.declared.script_files.Loaded.TheVariants.{Missing, TooLarge, NotUtf8, Text}
 use Rattle.std.proofs.lemmas.Bool.Decides.{nat_tests}
 use Rattle.tclv_io.specs.declared.outside.Mode.TheVariants.{Read}
 use Rattle.tclv_io.specs.World.{after_open}
@@ -25,12 +27,50 @@ pub record Reading (w v : World) (n : ℕ) (bytes : List ℕ) : Type 0 where
   pub can : IsTrue (can_read v n)
   pub close : IsTrue (can_close w n) → IsTrue (can_close v n)
   pub left : bytes ++ left v n ≡ left w n
+  pub number : 3 ≤ n
+  pub others : closed n v ≡ closed n w
 
-pub started : (w : World) (n : ℕ) → IsTrue (can_read w n) → Reading w w n []
-started w n can = record { can = can; close = λ h. h; left = refl }
+pub started : (w : World) (n : ℕ) → 3 ≤ n → IsTrue (can_read w n) → Reading w w n []
+started w n number can = record { can = can; close = λ h. h; left = refl; number = number; others = refl }
 
 pub get-insert_same : (m : map.FinMap nat_cmp Opened) (n : ℕ) (o : Opened) → map.get (map.insert m n o) n ≡ Some o
 get-insert_same m n o = get-insert nat_cmp_total m n o n ∙ ap (λ b. cond b (Some o) (map.get m n)) (ap is_eq (sym (nat_cmp_is n n Equal refl)))
+
+not_zero : (n : ℕ) → 3 ≤ n → nat_eq n 0 ≡ false
+not_zero n h = grind (arith, nat_tests)
+
+-- to remove what was put
+remove_put : (b : Bool) (here there : Option Opened) → cond b None (cond b here there) ≡ cond b None there
+remove_put true here there = refl
+remove_put false here there = refl
+
+remove-insert : (m : map.FinMap nat_cmp Opened) (n : ℕ) (o : Opened) → map.remove (map.insert m n o) n ≡ map.remove m n
+remove-insert m n o = same_map nat_cmp_total nat_cmp-IsAntisymmetric _ _ (λ q.
+    get-remove nat_cmp_total (map.insert m n o) n q
+    ∙ ap (cond (eq_by_cmp nat_cmp q n) None) (get-insert nat_cmp_total m n o q)
+    ∙ remove_put (eq_by_cmp nat_cmp q n) (Some o) (map.get m q)
+    ∙ sym (get-remove nat_cmp_total m n q))
+
+tied : (r : Ordering) → is_eq r ≡ true → r ≡ Equal
+tied Less e = cc
+tied Equal e = refl
+tied Greater e = cc
+
+absent_at : (m : map.FinMap nat_cmp Opened) (n q : ℕ) → map.get m n ≡ None → (b : Bool) → eq_by_cmp nat_cmp q n ≡ b → cond b None (map.get m q) ≡ map.get m q
+absent_at m n q none true t = sym none ∙ get_tied nat_cmp_total m q n (tied _ t)
+absent_at m n q none false t = refl
+
+remove_absent : (m : map.FinMap nat_cmp Opened) (n : ℕ) → map.get m n ≡ None → map.remove m n ≡ m
+remove_absent m n none = same_map nat_cmp_total nat_cmp-IsAntisymmetric _ _ (λ q. get-remove nat_cmp_total m n q ∙ absent_at m n q none _ refl)
+
+-- apart from its number a read changes nothing
+closed_same : (v : World) (n k : ℕ) → nat_eq n 0 ≡ false → (x : Option Opened) → map.get v.opened n ≡ x → closed n (taken_from n k v) ≡ closed n v
+closed_same v n k apart None f = rw (apart, f)
+closed_same v n k apart (Some o) f = rw (apart, f) (ap (λ m. record v { opened = m }) (remove-insert v.opened n (read_on k o)))
+
+-- a file that was opened under a new number, and closed
+pub closed_opened : (w : World) (name : List ℕ) (n : ℕ) → map.get w.opened n ≡ None → closed n (after_open name Read (Ok n) w) ≡ w
+closed_opened w name n none = ap (λ m. record w { opened = m }) (remove-insert w.opened n _ ∙ remove_absent w.opened n none)
 
 -- what a read leaves of its number
 record Left (v : World) (n k : ℕ) (u : World) : Type 0 where
@@ -55,6 +95,8 @@ goes_on w v n k bytes into r answer =
       left = append_assoc bytes (take k into) (left (taken_from n k v) n)
           ∙ ap (λ xs. bytes ++ xs) (ap (λ xs. xs ++ left (taken_from n k v) n) answer.0 ∙ ap (λ xs. take k (left v n) ++ xs) behind.bytes ∙ take-append-drop k (left v n))
           ∙ r.left;
+      number = r.number;
+      others = closed_same v n k (not_zero n r.number) _ refl ∙ r.others;
     }
 
 -- nothing is left
@@ -97,9 +139,6 @@ still_open w v u n k bytes r h is = subst (λ u. IsTrue (can_close u n)) is ((le
 pub written_back : (into items : List ℕ) (len count : ℕ) → count ≤ length into → count ≤ len → take count (take len (into ++ drop (length into) items)) ≡ take count into
 written_back into items len count fits below = take-take count len (into ++ drop (length into) items) below ∙ take-append-le count into (drop (length into) items) fits
 
-not_zero : (n : ℕ) → 3 ≤ n → nat_eq n 0 ≡ false
-not_zero n h = grind (arith, nat_tests)
-
 -- a file that was just opened
 pub record Fresh (w : World) (name : List ℕ) (n : ℕ) (u : World) : Type 0 where
   pub can : IsTrue (can_read u n)
@@ -115,13 +154,32 @@ fresh w name n h =
 elim_false : false ≡ true → ⊥
 elim_false e = cc
 
-pub gives_text : (x : Option (List ℕ)) (text : Vec ℕ Global) → IsTrue (is_some x) → IsWhole (unwrap_or x []) text.items → length text.items ≤ 2 ^ 30 → Gives x (Ok (Text text))
-gives_text None text h whole fits = absurd (elim_false h)
-gives_text (Some bytes) text h whole fits = let same = whole.all fits in (same, omega (arith, ap length same))
+-- what was read is judged as the file is
+judged_whole : (rest bytes : List ℕ) (loaded : Loaded) → IsWhole rest bytes → Judged bytes loaded → Judged rest loaded
+judged_whole rest bytes Missing whole j = j
+judged_whole rest bytes TooLarge whole j = whole.too_large j
+judged_whole rest bytes NotUtf8 whole j = subst (λ b. Judged b NotUtf8) (whole.all j.0) j
+judged_whole rest bytes (Text text) whole j = subst (λ b. Judged b (Text text)) (whole.all j.0) j
 
-pub gives_too_large : (x : Option (List ℕ)) (bytes : List ℕ) → IsTrue (is_some x) → IsWhole (unwrap_or x []) bytes → 2 ^ 30 < length bytes → Gives x (Ok TooLarge)
-gives_too_large None bytes h whole more = absurd (elim_false h)
-gives_too_large (Some file) bytes h whole more = whole.too_large more
+pub found : (x : Option (List ℕ)) (bytes : List ℕ) (loaded : Loaded) → IsTrue (is_some x) → IsWhole (unwrap_or x []) bytes → Judged bytes loaded → Found x loaded
+found None bytes loaded h whole j = absurd (elim_false h)
+found (Some file) bytes loaded h whole j = judged_whole file bytes loaded whole j
+
+-- apart from one number, all is as before
+pub same_others : (n : ℕ) (t0 t : Option World) → shown t ≡ shown t0 → ((w : World) → t0 ≡ Some w → (v : World) × (t ≡ Some v) × (closed n v ≡ closed n w)) → option_map (closed n) t ≡ option_map (closed n) t0
+same_others n None None e f = refl
+same_others n None (Some v) e f = let bad = e in cc
+same_others n (Some w) t e f = let v = f w refl in ap (option_map (closed n)) v.1 ∙ ap Some v.2
+
+-- the world before, where a file was opened, read and closed
+pub reopened : (name : List ℕ) (n : ℕ) (t0 t1 t2 t3 : Option World) → WhereTold t0 (OpenAnswers name Read (Ok n)) → t1 ≡ option_map (after_open name Read (Ok n)) t0 → option_map (closed n) t2 ≡ option_map (closed n) t1 → t3 ≡ option_map (closed n) t2 → t3 ≡ t0
+reopened name n None t1 t2 t3 answer opened read closing = closing ∙ read ∙ ap (option_map (closed n)) opened
+reopened name n (Some w) t1 t2 t3 answer opened read closing = closing ∙ read ∙ ap (option_map (closed n)) opened ∙ ap Some (closed_opened w name n (answer w refl).0)
 
 pub sees_same : (b a : Seen) → a.shown ≡ b.shown → a.torn ≡ b.torn → SeesSame b a
 sees_same b a shown torn = record { shown = shown; torn = λ o e. omega (arith, torn) }
+
+-- what the reader of UTF-8 says of bytes that are none
+pub no_utf8 : (bytes : List ℕ) → ¬ (IsUtf8 bytes) → (b : Bool) → is_utf8 bytes ≡ b → b ≡ false
+no_utf8 bytes none true e = absurd (none (IsUtf8-from_is_utf8 bytes e))
+no_utf8 bytes none false e = refl

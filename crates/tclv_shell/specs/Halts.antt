@@ -3,7 +3,7 @@ use Rattle.std.specs.Prelude.{ℕ, ◌+◌, ◌==◌, if◌then◌else◌, ◌�
 use Rattle.std.specs.Option.{option_map}
 use Rattle.tclv_io.specs.World.{World, Out, Target, Output, Errors, add}
 use Rattle.tclv_io.specs.Causes.{Rose}
-use Rattle.tclv_io.specs.Events.{Event, After, next_length, shown}
+use Rattle.tclv_io.specs.Events.{shown}
 use Rattle.tclv_model.specs.declared.reports.End as ends
 use Rattle.tclv_model.specs.declared.reports.End.TheVariants as end
 use Rattle.tclv_shell.specs.declared.halts.Halt.{Halt}
@@ -43,12 +43,6 @@ abbrev pub Written : {T : Type 0} → Target → List ℕ → Result T Halt → 
 Written target piece (Ok x) before after = Stepped before after (λ o. add o target piece) 0
 Written target piece (Err Device) before after = (part : ℕ) × (part ≤ length piece) × Stepped before after (λ o. add o target (take part piece)) part
 Written target piece (Err Memory) before after = SeesSame before after
-
--- all of these events happened, or none of them, or at a device's fault what the failed write took of the first
-abbrev pub Did : List Event → Result ℕ Halt → Seen → Seen → Type 0
-Did es (Ok n) before after = (n ≡ length es) × (n ≤ 1) × Stepped before after (λ o. After o es n 0) 0
-Did es (Err Device) before after = (part : ℕ) × (part ≤ next_length es) × Stepped before after (λ o. After o es 0 part) part
-Did es (Err Memory) before after = SeesSame before after
 
 -- the target of a standard stream
 abbrev pub standard : ℕ → Target

@@ -5,11 +5,17 @@
 //! of memory ends the run after a prefix of that meaning's writes. The program `tclvsh` calls it.
 #![tactic(auto)]
 
+mod arguments;
+mod file_ends;
+mod final_messages;
 mod halts;
-mod plain;
+mod script_ends;
 mod script_files;
+mod script_texts;
+mod scripts;
 #[cfg(test)]
 mod tests;
 mod top_call;
+mod words;
 
 pub use top_call::run;

@@ -1,13 +1,15 @@
 // The script file.
 ghost use Rattle.std.specs.Prelude.{◌≡◌, ◌≢◌, ℕ, ◌<◌, ◌≤◌, ◌^◌, IsTrue, IfOk, OnOk, length, vec_len};
+ghost use Rattle.std.specs.Option.{option_map};
 ghost use Rattle.std.specs.FinMap as finite;
-ghost use Rattle.tclv_io.specs.World.{WhereTold, can_read, can_close, left};
+ghost use Rattle.tclv_io.specs.World.{WhereTold, can_read, can_close, left, closed};
 ghost use Rattle.tclv_shell.specs.Halts.{HaltCause, SeesSame, seen};
-ghost use Rattle.tclv_shell.specs.Loaded.{Gives, IsWhole};
+ghost use Rattle.tclv_shell.specs.Loaded.{Gives, Judged, IsWhole};
 
 use crate::halts::Halt;
 use std::alloc::Global;
 use tclv_io::{Mode, OpenFault, Outside};
+use tclv_text::Text;
 
 /// The most bytes that a script file may have.
 const MAX_BYTES: usize = 1 << 30;
@@ -22,8 +24,10 @@ pub enum Loaded {
     Missing,
     /// The file has more than 2^30 bytes.
     TooLarge,
-    /// The bytes of the file.
-    Text(Vec<u8>),
+    /// The bytes of the file are no UTF-8.
+    NotUtf8,
+    /// The text of the file.
+    Text(Text),
 }
 
 // A buffer of zeros.
@@ -39,10 +43,12 @@ fn zeros(alloc: Global, count: usize) -> Result<Vec<u8>, Halt>
 
 // Reads to the end, or until the bytes are too many.
 fn read_all<O: Outside>(alloc: Global, file: u64, out: &mut O) -> Result<Vec<u8>, Halt>
-    requires { WhereTold (O.told out.old) (λ w. IsTrue (can_read w file)) }
+    requires standard { 3 ≤ file }
+    requires is_open { WhereTold (O.told out.old) (λ w. IsTrue (can_read w file)) }
     ensures whole { WhereTold (O.told out.old) (λ w. IfOk result (λ bytes. IsWhole (left w file) bytes.items)) }
     ensures same { SeesSame (seen (O.told out.old) (O.faults out.old) (O.torn out.old)) (seen (O.told out.new) (O.faults out.new) (O.torn out.new)) }
     ensures still_open { OnOk result (WhereTold (O.told out.old) (λ w. IsTrue (can_close w file) → WhereTold (O.told out.new) (λ v. IsTrue (can_close v file)))) }
+    ensures others { OnOk result (option_map (closed file) (O.told out.new) ≡ option_map (closed file) (O.told out.old)) }
     ensures cause { HaltCause (seen (O.told out.old) (O.faults out.old) (O.torn out.old)) (seen (O.told out.new) (O.faults out.new) (O.torn out.new)) result }
 {
     let mut block = zeros(alloc, BLOCK)?;
@@ -66,6 +72,7 @@ fn close<O: Outside>(file: u64, out: &mut O) -> Result<(), Halt>
     requires standard { 3 ≤ file }
     requires is_open { WhereTold (O.told out.old) (λ w. IsTrue (can_close w file)) }
     ensures same { SeesSame (seen (O.told out.old) (O.faults out.old) (O.torn out.old)) (seen (O.told out.new) (O.faults out.new) (O.torn out.new)) }
+    ensures world { OnOk result (O.told out.new ≡ option_map (closed file) (O.told out.old)) }
     ensures cause { HaltCause (seen (O.told out.old) (O.faults out.old) (O.torn out.old)) (seen (O.told out.new) (O.faults out.new) (O.torn out.new)) result }
 {
     match out.close(file) {
@@ -74,10 +81,25 @@ fn close<O: Outside>(file: u64, out: &mut O) -> Result<(), Halt>
     }
 }
 
-/// Opens a script file, reads it and closes it.
+// What the bytes of a file are: too many, no UTF-8, or a text.
+fn judged(bytes: Vec<u8>) -> Loaded
+    ensures { Judged bytes.items result }
+{
+    if bytes.len() > MAX_BYTES {
+        return Loaded::TooLarge;
+    }
+    match str::from_utf8(&bytes) {
+        Ok(_) => Loaded::Text(Text::new(bytes)),
+        Err(_) => Loaded::NotUtf8,
+    }
+}
+
+/// Opens a script file, reads it and closes it, and then looks at its size and whether it is UTF-8.
+/// Where this doesn't halt, the outside holds what it held before.
 pub fn load<O: Outside>(alloc: Global, name: &str, out: &mut O) -> Result<Loaded, Halt>
     ensures gives { WhereTold (O.told out.old) (λ w. Gives (finite.get w.out.files name.now) result) }
     ensures same { SeesSame (seen (O.told out.old) (O.faults out.old) (O.torn out.old)) (seen (O.told out.new) (O.faults out.new) (O.torn out.new)) }
+    ensures world { OnOk result (O.told out.new ≡ O.told out.old) }
     ensures cause { HaltCause (seen (O.told out.old) (O.faults out.old) (O.torn out.old)) (seen (O.told out.new) (O.faults out.new) (O.torn out.new)) result }
 {
     let file = match out.open(name, Mode::Read) {
@@ -88,9 +110,5 @@ pub fn load<O: Outside>(alloc: Global, name: &str, out: &mut O) -> Result<Loaded
     };
     let text = read_all(alloc, file, out)?;
     close(file, out)?;
-    if text.len() > MAX_BYTES {
-        Ok(Loaded::TooLarge)
-    } else {
-        Ok(Loaded::Text(text))
-    }
+    Ok(judged(text))
 }

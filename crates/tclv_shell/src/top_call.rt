@@ -1,121 +1,63 @@
 // The top call.
-ghost use Rattle.std.specs.Prelude.{◌≡◌, ◌≢◌, ◌⊎◌, ℕ, ◌<◌, ◌≤◌, ◌++◌, [], ◌∷◌, IfOk, map, None, string_bytes};
-ghost use Rattle.std.specs.Option.{option_copied};
+ghost use Rattle.std.specs.Prelude.{◌≡◌, ◌≢◌, ◌⊎◌, ℕ, ◌<◌, ◌≤◌, map, None, string_bytes};
 ghost use Rattle.std.specs.FinMap as finite;
 ghost use Rattle.tclv_io.specs.World.{WhereTold};
 ghost use Rattle.tclv_io.specs.Causes.{Rose};
 ghost use Rattle.tclv_io.specs.Events.{shown};
-ghost use Rattle.tclv_model.specs.Message.{text_of};
-ghost use Rattle.tclv_shell.specs.Words.{file_of, is_file};
 ghost use Rattle.tclv_shell.specs.Halts.{seen};
-ghost use Rattle.tclv_shell.specs.Run.{Run, Follows, MeansAll, MeansPrefix, IsComplete, IsCutShort, status_of, message_only, meaning_of_text, meaning_of_file};
+ghost use Rattle.tclv_shell.specs.Lent.{lent};
+ghost use Rattle.tclv_shell.specs.Words.{invocation_of};
+ghost use Rattle.tclv_shell.specs.Run.{Run, Follows, MeansAll, MeansPrefix, IsComplete, IsCutShort, HasStatus, message_only, meaning_of_file};
 
-use crate::halts::{Halt, cut_short, write_piece};
-use crate::plain::{is_plain, put_lines};
+use crate::final_messages::say;
+use crate::halts::cut_short;
 use crate::script_files::{Loaded, load};
+use crate::scripts::run_text;
+use crate::words::{Invocation, read_words};
 use std::alloc::Global;
 use tclv_io::Outside;
-use tclv_model::{End, MessageId, Report, message};
-use tclv_text::{NoMemory, Stats};
+use tclv_model::{End, MessageId, Report};
 
-fn status_of(end: End) -> u8
-    ensures { result ≡ status_of end }
+// Ends a run whose script file can't be run.
+fn refuse<O: Outside>(alloc: Global, kind: MessageId, file: &str, out: &mut O) -> Report
+    ensures follows { Follows (λ w. message_only kind file.now End.Failed) (O.told out.old) (seen (O.told out.old) (O.faults out.old) (O.torn out.old)) (seen (O.told out.new) (O.faults out.new) (O.torn out.new)) result }
+    ensures ends { result.end ≢ End.Usage }
 {
-    match end {
-        End::Done => 0,
-        End::Failed => 1,
-        End::Usage => 2,
-        End::Budget => 125,
-        End::Device => 124,
-        End::Memory => 123,
-    }
+    say(alloc, kind, file.as_bytes(), End::Failed, out)
 }
 
-fn message_line(alloc: Global, kind: MessageId, part: &[u8]) -> Result<Vec<u8>, NoMemory>
-    ensures { IfOk result (λ line. line.items ≡ text_of kind part.now [] ++ 10 ∷ []) }
+// Opens, reads and runs the script file.
+fn run_file<O: Outside>(alloc: Global, call: Invocation<'_>, out: &mut O) -> Report
+    ensures follows { Follows (λ w. meaning_of_file (lent call.entry) (finite.get w.out.files call.entry.file.now) w) (O.told out.old) (seen (O.told out.old) (O.faults out.old) (O.torn out.old)) (seen (O.told out.new) (O.faults out.new) (O.torn out.new)) result }
+    ensures ends { result.end ≢ End.Usage }
 {
-    let mut line = Vec::new(alloc);
-    message(kind, part, &[], &mut line)?;
-    line.push(b'\n')?;
-    Ok(line)
-}
-
-// Ends a run with a message.
-fn say<O: Outside>(alloc: Global, kind: MessageId, part: &[u8], end: End, out: &mut O) -> Report
-    requires { IsComplete end }
-    ensures follows { Follows (λ o. message_only kind part.now end) (seen (O.told out.old) (O.faults out.old) (O.torn out.old)) (seen (O.told out.new) (O.faults out.new) (O.torn out.new)) result }
-    ensures ends { (result.end ≡ end) ⊎ IsCutShort result.end }
-{
-    let Ok(line) = message_line(alloc, kind, part) else {
-        return cut_short(Halt::Memory, 0);
-    };
-    match write_piece(2, &line, out) {
-        Ok(()) => Report {
-            end,
-            status: status_of(end),
-            writes: 1,
-            stats: Stats::ZERO,
-        },
+    match load(alloc, call.file, out) {
+        Ok(Loaded::Text(text)) => run_text(alloc, call, &text, out),
+        Ok(Loaded::Missing) => refuse(alloc, MessageId::NoSuchFile, call.file, out),
+        Ok(Loaded::TooLarge) => refuse(alloc, MessageId::FileTooLarge, call.file, out),
+        Ok(Loaded::NotUtf8) => refuse(alloc, MessageId::FileNotUtf8, call.file, out),
         Err(halt) => cut_short(halt, 0),
     }
 }
 
-fn run_text<O: Outside>(alloc: Global, text: &[u8], out: &mut O) -> Report
-    ensures follows { Follows (λ o. meaning_of_text text.now) (seen (O.told out.old) (O.faults out.old) (O.torn out.old)) (seen (O.told out.new) (O.faults out.new) (O.torn out.new)) result }
-    ensures ends { result.end ≢ End.Usage }
-{
-    if is_plain(text) {
-        put_lines(alloc, text, out)
-    } else {
-        say(alloc, MessageId::NotBuilt, &[], End::Failed, out)
-    }
-}
-
-fn run_file<O: Outside>(alloc: Global, name: &str, out: &mut O) -> Report
-    ensures follows { Follows (λ o. meaning_of_file name.now (finite.get o.files name.now)) (seen (O.told out.old) (O.faults out.old) (O.torn out.old)) (seen (O.told out.new) (O.faults out.new) (O.torn out.new)) result }
-    ensures ends { result.end ≢ End.Usage }
-{
-    match load(alloc, name, out) {
-        Ok(Loaded::Text(text)) => run_text(alloc, &text, out),
-        Ok(Loaded::Missing) => say(
-            alloc,
-            MessageId::NoSuchFile,
-            name.as_bytes(),
-            End::Failed,
-            out,
-        ),
-        Ok(Loaded::TooLarge) => say(
-            alloc,
-            MessageId::FileTooLarge,
-            name.as_bytes(),
-            End::Failed,
-            out,
-        ),
-        Err(halt) => cut_short(halt, 0),
-    }
-}
-
-// The script file, where the words are in form.
-fn script_name(words: &Vec<String>) -> Option<&str>
-    ensures { option_copied result ≡ file_of (map string_bytes words.now.items) }
-{
-    let word = words.first()?.as_str();
-    match word.as_bytes() {
-        [] | [b'-', ..] => None,
-        _ => Some(word),
-    }
-}
-
-/// Runs the words of a command line, which come without the program's name: a script file and its
-/// arguments.
+/// Runs the words of a command line, which come without the program's name: a budget or none, a
+/// script file and its arguments.
 ///
-/// The words are in form where the first is there, isn't empty and doesn't begin with `-`. The
-/// script file is opened, read to its end and closed; then its size and its form are looked at, and
-/// then its commands run. A message goes to standard error with a newline behind it.
+/// The words are in form where they are a file and arguments, or `-budget`, a number, a file and
+/// arguments. The number is 1 to 19 decimal digits, at most 2^63-1; without it the budget is 10^12.
+/// A file's name isn't empty and doesn't begin with `-`.
 ///
-/// The report's `end` is `Done` where all commands ran, `Failed` where the script file isn't there,
-/// is too large or isn't a plain script, `Usage` where the words aren't in form, `Device` where the
-/// device failed and `Memory` where memory ran out; after the last two nothing more is written.
+/// The script file is opened, read to its end and closed; then its size is looked at, and whether
+/// it is UTF-8. In its text CR LF and a lone CR become newlines. Then its commands run, with `argv0`
+/// set to the file's name, `argc` to the count of arguments and `argv` to the list of them; each
+/// command takes a unit of the budget.
+///
+/// The report's `end` is `Done` where all commands ran, or where `exit` ended the run with a status
+/// of its own; `Failed` where the script ended with an error, and where its file isn't there, is
+/// too large or isn't UTF-8; `Usage` where the words aren't in form; `Budget` where no unit was
+/// left. In the last three cases a message goes to standard error with a newline behind it. The end
+/// is `Device` where the device failed and `Memory` where memory ran out; then nothing more is
+/// written.
 pub fn run<O: Outside>(alloc: Global, words: &Vec<String>, out: &mut O) -> Report
     // Where the run comes to its own end, all is as its meaning says.
     ensures all { WhereTold (O.told out.old) (λ w. IsComplete result.end → MeansAll (Run (map string_bytes words.now.items) w) w.out (shown (O.told out.new)) result) }
@@ -129,12 +71,12 @@ pub fn run<O: Outside>(alloc: Global, words: &Vec<String>, out: &mut O) -> Repor
     ensures fault { O.faults out.old < O.faults out.new → result.end ≡ End.Device }
     ensures later { O.faults out.old ≤ O.faults out.new }
 
-    ensures status { result.status ≡ status_of result.end }
-    ensures usage { result.end ≡ End.Usage → file_of (map string_bytes words.now.items) ≡ None }
-    ensures only_usage { file_of (map string_bytes words.now.items) ≡ None → (result.end ≡ End.Usage) ⊎ IsCutShort result.end }
+    ensures status { HasStatus result.end result.status }
+    ensures usage { result.end ≡ End.Usage → invocation_of (map string_bytes words.now.items) ≡ None }
+    ensures only_usage { invocation_of (map string_bytes words.now.items) ≡ None → (result.end ≡ End.Usage) ⊎ IsCutShort result.end }
 {
-    match script_name(words) {
-        Some(name) => run_file(alloc, name, out),
+    match read_words(words) {
+        Some(call) => run_file(alloc, call, out),
         None => say(alloc, MessageId::Usage, &[], End::Usage, out),
     }
 }

@@ -1,10 +1,5 @@
-use Rattle.std.proofs.Common.{rules, ◌≡◌, ◌≢◌, ◌↔◌, ◌<◌, [], ℕ, false, true, length, slice_index_or, IfOk, IfErr, OnOk, OnErr, Ok, Err, Some, ◌+◌, ◌-◌, ◌≤◌, List, ◌∷◌, ◌++◌, sym, ap, ◌∙◌, refl, subst, arith}
-use Rattle.std.specs.Str.{chars}
+use Rattle.tclv_interp.proofs.CodeLemmas.{if_ok-as, ok_number}
 use Rattle.tclv_interp.proofs.calls.plain_options.Goals as goal
-use Rattle.tclv_interp.specs.Results.{option, plain_options}
-use Rattle.std.specs.Prelude.{codes}
 
 pub returns : goal.returns
-unfolding chars
-returns c = c.in_ok-push-2.ensures.ok ∙ ap (λ xs. xs ++ c.in_ok-option_of-2.field-0 ∷ []) (c.in_ok-push.ensures.ok ∙ ap (λ xs. xs ++ c.in_ok-option_of.field-0 ∷ []) c.new-options.ensures)
-    ∙ ap (λ p. p ∷ c.in_ok-option_of-2.field-0 ∷ []) c.in_ok-option_of.ensures ∙ ap (λ p. option (codes "-code") (codes "0") ∷ p ∷ []) c.in_ok-option_of-2.ensures
+returns c = if_ok-as c.code_options.result _ _ c.code_options.ensures ok_number

@@ -1,16 +1,18 @@
-use Rattle.std.proofs.Common.{◌≡◌, rules, subst, ap, ◌∙◌}
+use Rattle.std.proofs.Common.{◌≡◌, ◌∙◌, ◌++◌, [], List, ℕ, subst, ap}
 use Rattle.std.specs.Str.{chars}
-use Rattle.tclv_text.specs.Texts.{IsText}
-use Rattle.tclv_model.specs.Message.{text_of}
-use Rattle.tclv_interp.proofs.MessageLemmas.{message-is_text, message-chars}
+use Rattle.std.proofs.lemmas.Str.{chars-nil, IsUtf8-nil}
+use Rattle.tclv_text.specs.Texts.{IsText, AppendsText}
 use Rattle.tclv_interp.proofs.messages.message_text.Goals as goal
 
+-- what was put on no bytes
+on-none : (old new cs : List ℕ) → old ≡ [] → AppendsText old new cs → IsText new × (chars new ≡ cs)
+on-none old new cs none h =
+    let put : AppendsText [] new cs = subst (λ x. AppendsText x new cs) none h in
+    let all = put (record { utf8 = IsUtf8-nil }) in
+    (all.0, all.1 ∙ ap (λ x. x ++ cs) chars-nil)
+
 pub new-requires : goal.new-requires
-new-requires c =
-    let all : text_of c.args.kind c.args.first.now c.args.second.now ≡ c.message.new.out.items = search rules in
-    subst IsText all (message-is_text c.args.kind _ _ c.requires.first c.requires.second)
+new-requires c = (on-none _ _ _ c.new-text.ensures.items (c.in_ok-message.ensures.text c.requires.first c.requires.second)).0
 
 pub returns : goal.returns
-returns c =
-    let all : c.message.new.out.items ≡ text_of c.args.kind c.args.first.now c.args.second.now = search rules in
-    c.new.ensures ∙ ap chars all ∙ message-chars c.args.kind _ _ c.requires.first c.requires.second
+returns c = c.new.ensures ∙ (on-none _ _ _ c.new-text.ensures.items (c.in_ok-message.ensures.text c.requires.first c.requires.second)).1

@@ -1,13 +1,13 @@
-use Rattle.std.proofs.Common.{◌≡◌, ◌+◌, ◌<◌, ◌≤◌, cond, ◌^◌, ◌++◌, List, ℕ, length, take, refl, sym, ◌∙◌, ap, subst, arith, Ok, Err}
+use Rattle.std.proofs.Common.{◌≡◌, ◌<◌, ◌≤◌, cond, ◌++◌, length, take, refl, sym, ◌∙◌, ap, subst, arith, Ok, Err}
 use Rattle.std.specs.Prelude.{IsTrue}
-use Rattle.tclv_io.specs.World.{World, can_read, can_close, taken_from, after_read}
-use Rattle.tclv_shell.proofs.Reading.{Reading, goes_on, ended, too_many, started, told_on, some_same, was_told, shown_read, still_open, written_back, sees_same}
+use Rattle.tclv_io.specs.World.{can_read, can_close, taken_from}
+use Rattle.tclv_shell.proofs.Reading.{Reading, goes_on, ended, too_many, started, told_on, some_same, was_told, shown_read, still_open, written_back, sees_same, same_others}
 use Rattle.tclv_shell.specs.Halts.{seen}
 use Rattle.tclv_shell.proofs.script_files.read_all.Goals as goal
 
 pub loop-out-init : goal.loop-out-init
 loop-out-init g c = record {
-  told = λ w e. (w, e, subst (λ b. Reading w w c.args.file b) (sym c.new-bytes.ensures.items) (started w c.args.file (c.requires w e)));
+  told = λ w e. (w, e, subst (λ b. Reading w w c.args.file b) (sym c.new-bytes.ensures.items) (started w c.args.file c.requires.standard (c.requires.is_open w e)));
   shown = refl;
   torn = refl;
   faults = refl;
@@ -73,3 +73,19 @@ pub returns-clause-still_open : goal.returns-clause-still_open
 returns-clause-still_open g c = λ w e h u s.
     let r = c.loop-out.invariant.told w e in
     subst (λ u. IsTrue (can_close u c.args.file)) (some_same r.0 u (sym r.1 ∙ s)) (r.2.close h)
+
+pub returns-then-count-eq0-clause-others : goal.returns-then-count-eq0-clause-others
+returns-then-count-eq0-clause-others g c =
+    same_others c.args.file (g.O.Outside.told c.args.out.now) (g.O.Outside.told c.read.new.self)
+    (shown_read c.args.file (Ok c.in-Ok.count) (g.O.Outside.told c.loop-out.out) (g.O.Outside.told c.read.new.self) c.in-Ok.ensures.world ∙ c.loop-out.invariant.shown)
+    (λ w e.
+    let r = c.loop-out.invariant.told w e in (
+      taken_from c.args.file c.in-Ok.count r.0,
+      told_on (taken_from c.args.file c.in-Ok.count) (g.O.Outside.told c.loop-out.out) (g.O.Outside.told c.read.new.self) r.0 c.in-Ok.ensures.world r.1,
+      (goes_on w r.0 c.args.file c.in-Ok.count c.loop-out.bytes.items c.read.new.into r.2 (c.in-Ok.ensures.answer r.0 r.1)).others,
+    ))
+
+pub returns-clause-others : goal.returns-clause-others
+returns-clause-others g c =
+    same_others c.args.file (g.O.Outside.told c.args.out.now) (g.O.Outside.told c.loop-out.out) c.loop-out.invariant.shown
+    (λ w e. let r = c.loop-out.invariant.told w e in (r.0, r.1, r.2.others))

@@ -1,6 +1,5 @@
-use Rattle.std.proofs.Common.{◌≡◌, ◌+◌, ◌-◌, ◌<◌, ◌^◌, Some, length, vec_len}
-use Rattle.std.specs.Prelude.{IsTrue}
-use Rattle.tclv_io.specs.World.{World, can_read}
+use Rattle.std.proofs.Common.{◌≡◌, ◌+◌, ◌-◌, ◌<◌, ◌^◌, Some, vec_len}
+use Rattle.tclv_io.specs.World.{World}
 use Rattle.tclv_io.specs.Events.{shown}
 use Rattle.tclv_shell.proofs.Reading.{Reading}
 use Rattle.tclv_shell.proofs.script_files.read_all.Given as goal

@@ -1,22 +1,35 @@
-use Rattle.std.proofs.Common.{◌≡◌, ◌+◌, ◌-◌, ◌∷◌, [], ◌++◌, length, rules, arith, subst, sym, ap, ◌∙◌, Err, refl, drop}
+use Rattle.std.proofs.Common.{◌≡◌, ◌+◌, ◌-◌, ◌∷◌, [], ◌++◌, length, rules, arith, subst, sym, ap, ◌∙◌, Err, refl, drop, get_or}
 use Rattle.tclv_model.specs.declared.messages.MessageId.TheVariants as message
 use Rattle.tclv_interp.specs.declared.endings.ErrorCode.TheVariants.{NoCode}
 use Rattle.tclv_interp.specs.State.{state_of}
-use Rattle.tclv_interp.specs.Results.{done, plain}
+use Rattle.tclv_interp.specs.Results.{done, ok, plain}
 use Rattle.tclv_interp.specs.Words.{words, joined, part_value, expanded, bracketed}
 use Rattle.tclv_interp.specs.Variables.{variable}
 use Rattle.tclv_interp.specs.Evaluation.{evaluator, below, sequence, command, call}
 use Rattle.tclv_interp.specs.Answers.{outer, last_of, as_result, stacked, on_top, Over, Keeps}
-use Rattle.tclv_interp.proofs.Binds.{bind_ok, then_stop, runs_as, answers_as, bind-done}
+use Rattle.tclv_interp.proofs.Binds.{bind_ok, then_stop, runs_as, answers_as, bind-done, calm_caused}
 use Rattle.tclv_interp.proofs.Leaves.{done_runs, raise_runs, raise_bare, memory_runs, from_same, then_same, same_state}
 use Rattle.tclv_interp.proofs.StackLemmas.{top-stacked, settled, over_push, over-popped, over-one, last-pushed, keeps_all, keeps_on, keeps-split, drop-more, drop-base}
-use Rattle.tclv_interp.proofs.Handed.{text_runs, push-memory}
+use Rattle.tclv_interp.proofs.Handed.{text_runs, push-memory, result_runs, ok-done}
 use Rattle.std.specs.Str.{chars}
 use Rattle.std.proofs.lemmas.Str.{chars-nil}
+use Rattle.tclv_value.specs.Stacks.{top}
+use Rattle.tclv_interp.specs.Builtins.{row}
+use Rattle.tclv_interp.proofs.CommandLemmas.{call-empty, call-some}
 use Rattle.tclv_interp.proofs.PartLemmas.{literal-part, variable-part, element-part, script-part}
 use Rattle.tclv_interp.proofs.Walks.{begins}
 use Rattle.tclv_interp.proofs.Steps.{sequence-step, sequence-end, words-step, words-end, joined-step, joined-end, joined-one, element-step, element-end, outcome-is, one-item}
 use Rattle.tclv_interp.proofs.Depths.{at_unit, over_limit, under_limit, back_runs}
+use Rattle.tclv_parse.specs.Grammar.{commands}
+use Rattle.tclv_value.specs.View.{text_at}
+use Rattle.tclv_lists.specs.Joining.{concatenated}
+use Rattle.tclv_interp.specs.ScriptRows.{eval_usage}
+use Rattle.tclv_interp.proofs.WordLemmas.{values_same, usage_runs, first_of_top}
+use Rattle.tclv_model.specs.Values.{list_of}
+use Rattle.tclv_interp.specs.DataRows.{of_answer}
+use Rattle.tclv_interp.proofs.ExpandLemmas.{stacked_on, words_on}
+use Rattle.tclv_interp.proofs.DataLemmas.{over_call}
+use Rattle.tclv_interp.proofs.ScriptRowLemmas.{eval_refused, eval_joined, replaced_last, replaced_under}
 use Rattle.tclv_interp.proofs.machine.Machine.+eval.Goals as goal
 
 -- ---- a command
@@ -166,8 +179,17 @@ word-returns-in_err-substitute-clause-answer g t c bound h w told =
 
 pub word-returns-then-word-clause-answer : goal.word-returns-then-word-clause-answer
 word-returns-then-word-clause-answer g t c bound h w told =
+    let base = over-popped c.args.self.now.values.store.stack c.substitute.new.self.values.store.stack c.in_ok-substitute.ensures.stack in
     bind_ok _ (c.in_ok-substitute.ensures.answer bound h w told)
-    (λ text v e shown. runs_as (ap (λ x. expanded x text (state_of c.substitute.new.self v)) (sym c.if-word.true)) (raise_runs c.substitute.new.self e c.not_built.ensures.same c.not_built.ensures.raises))
+    (λ text v e shown. runs_as (ap (λ t. of_answer (list_of t) (state_of c.substitute.new.self v)) shown ∙ ap (λ x. expanded x text (state_of c.substitute.new.self v)) (sym c.if-word.true))
+    (stacked_on base (c.expand.ensures.answer (outer (g.O.Outside.told c.substitute.new.out) (g.O.Outside.torn c.substitute.new.out)) v e)))
+
+pub word-returns-then-word-clause-stack : goal.word-returns-then-word-clause-stack
+word-returns-then-word-clause-stack g t c =
+    words_on c.expand.result c.expand.new.self.values.store.stack (over-popped c.args.self.now.values.store.stack c.substitute.new.self.values.store.stack c.in_ok-substitute.ensures.stack) c.expand.ensures.stack
+
+pub word-returns-then-word-clause-cause : goal.word-returns-then-word-clause-cause
+word-returns-then-word-clause-cause g t c = calm_caused c.expand.result _ _ c.expand.ensures.calm c.in_ok-substitute.ensures.cause
 
 pub word-returns-clause-answer : goal.word-returns-clause-answer
 word-returns-clause-answer g t c bound h w told =
@@ -261,3 +283,122 @@ element-returns-clause-answer g t c bound h w told =
     runs_as (element-step c.args.levels (evaluator bound) c.args.index.now (state_of c.args.self.now w) (search (rules, c.if-levels-eq0.false)))
     (bind_ok _ (c.in_ok-substitute.ensures.answer bound h w told)
     (λ text v e shown. raise_runs c.substitute.new.self e c.not_built.ensures.same c.not_built.ensures.raises))
+
+-- ---- calls
+
+pub call-returns-then-n-eq0-clause-answer : goal.call-returns-then-n-eq0-clause-answer
+call-returns-then-n-eq0-clause-answer g t c bound h w told =
+    runs_as (ok-done (chars []) (state_of c.args.self.now w) ∙ ap (λ t. ok t (state_of c.args.self.now w)) chars-nil ∙ call-empty (evaluator bound) c.args.n c.args.self.now.values.store.stack (state_of c.args.self.now w) c.if-n-eq0.true)
+    (result_runs _ _ _ _ _ (c.push_text.ensures.answer (outer (g.O.Outside.told c.args.out.now) (g.O.Outside.torn c.args.out.now)) w told))
+
+pub call-returns-in_err-builtin-clause-answer : goal.call-returns-in_err-builtin-clause-answer
+call-returns-in_err-builtin-clause-answer g t c bound h w told =
+    runs_as (call-some (evaluator bound) c.args.n c.args.self.now.values.store.stack (state_of c.args.self.now w) (search (rules, c.if-n-eq0.false)) c.requires)
+    (then_stop _ (search rules) (c.in_err-builtin.ensures.answer (outer (g.O.Outside.told c.args.out.now) (g.O.Outside.torn c.args.out.now)) w told))
+
+pub call-returns-clause-answer : goal.call-returns-clause-answer
+call-returns-clause-answer g t c bound h w told =
+    runs_as (call-some (evaluator bound) c.args.n c.args.self.now.values.store.stack (state_of c.args.self.now w) (search (rules, c.if-n-eq0.false)) c.requires)
+    (bind_ok _ (c.in_ok-builtin.ensures.answer (outer (g.O.Outside.told c.args.out.now) (g.O.Outside.torn c.args.out.now)) w told)
+    (λ b v e shown. runs_as
+    (ap (λ s. row c.in_ok-builtin.builtin (evaluator bound) (top c.args.n s) (state_of c.resolve.new.self v)) c.in_ok-builtin.ensures.stack
+    ∙ ap (λ x. row x (evaluator bound) (top c.args.n c.args.self.now.values.store.stack) (state_of c.resolve.new.self v)) shown)
+    (c.dispatch.ensures.answer bound (omega (arith, h, c.in_ok-builtin.ensures.units)) v e)))
+
+pub dispatch-returns-in-Append-clause-answer : goal.dispatch-returns-in-Append-clause-answer
+dispatch-returns-in-Append-clause-answer g t c bound h w told =
+    runs_as (ap (λ b. row b (evaluator bound) (top c.args.n c.args.self.now.values.store.stack) (state_of c.args.self.now w)) (sym c.in-Append.is))
+    (c.cmd_append.ensures.answer (outer (g.O.Outside.told c.args.out.now) (g.O.Outside.torn c.args.out.now)) w told)
+
+pub dispatch-returns-in-Cell-clause-answer : goal.dispatch-returns-in-Cell-clause-answer
+dispatch-returns-in-Cell-clause-answer g t c bound h w told =
+    runs_as (ap (λ b. row b (evaluator bound) (top c.args.n c.args.self.now.values.store.stack) (state_of c.args.self.now w)) (sym c.in-Cell.is))
+    (c.cmd_cell.ensures.answer (outer (g.O.Outside.told c.args.out.now) (g.O.Outside.torn c.args.out.now)) w told)
+
+pub dispatch-returns-in-Lassign-clause-answer : goal.dispatch-returns-in-Lassign-clause-answer
+dispatch-returns-in-Lassign-clause-answer g t c bound h w told =
+    runs_as (ap (λ b. row b (evaluator bound) (top c.args.n c.args.self.now.values.store.stack) (state_of c.args.self.now w)) (sym c.in-Lassign.is))
+    (c.cmd_lassign.ensures.answer (outer (g.O.Outside.told c.args.out.now) (g.O.Outside.torn c.args.out.now)) w told)
+
+pub dispatch-returns-in-Exit-clause-answer : goal.dispatch-returns-in-Exit-clause-answer
+dispatch-returns-in-Exit-clause-answer g t c bound h w told =
+    runs_as (ap (λ b. row b (evaluator bound) (top c.args.n c.args.self.now.values.store.stack) (state_of c.args.self.now w)) (sym c.in-Exit.is))
+    (c.cmd_exit.ensures.answer (outer (g.O.Outside.told c.args.out.now) (g.O.Outside.torn c.args.out.now)) w told)
+
+pub dispatch-returns-in-Incr-clause-answer : goal.dispatch-returns-in-Incr-clause-answer
+dispatch-returns-in-Incr-clause-answer g t c bound h w told =
+    runs_as (ap (λ b. row b (evaluator bound) (top c.args.n c.args.self.now.values.store.stack) (state_of c.args.self.now w)) (sym c.in-Incr.is))
+    (c.cmd_incr.ensures.answer (outer (g.O.Outside.told c.args.out.now) (g.O.Outside.torn c.args.out.now)) w told)
+
+pub dispatch-returns-in-Set-clause-answer : goal.dispatch-returns-in-Set-clause-answer
+dispatch-returns-in-Set-clause-answer g t c bound h w told =
+    runs_as (ap (λ b. row b (evaluator bound) (top c.args.n c.args.self.now.values.store.stack) (state_of c.args.self.now w)) (sym c.in-Set.is))
+    (c.cmd_set.ensures.answer (outer (g.O.Outside.told c.args.out.now) (g.O.Outside.torn c.args.out.now)) w told)
+
+pub dispatch-returns-in-Puts-clause-answer : goal.dispatch-returns-in-Puts-clause-answer
+dispatch-returns-in-Puts-clause-answer g t c bound h w told =
+    runs_as (ap (λ b. row b (evaluator bound) (top c.args.n c.args.self.now.values.store.stack) (state_of c.args.self.now w)) (sym c.in-Puts.is))
+    (c.cmd_puts.ensures.answer w told)
+
+pub dispatch-returns-in-Break-clause-answer : goal.dispatch-returns-in-Break-clause-answer
+dispatch-returns-in-Break-clause-answer g t c bound h w told =
+    runs_as (ap (λ b. row b (evaluator bound) (top c.args.n c.args.self.now.values.store.stack) (state_of c.args.self.now w)) (sym c.in-Break.is))
+    (c.cmd_break.ensures.answer (outer (g.O.Outside.told c.args.out.now) (g.O.Outside.torn c.args.out.now)) w told)
+
+pub dispatch-returns-in-Continue-clause-answer : goal.dispatch-returns-in-Continue-clause-answer
+dispatch-returns-in-Continue-clause-answer g t c bound h w told =
+    runs_as (ap (λ b. row b (evaluator bound) (top c.args.n c.args.self.now.values.store.stack) (state_of c.args.self.now w)) (sym c.in-Continue.is))
+    (c.cmd_continue.ensures.answer (outer (g.O.Outside.told c.args.out.now) (g.O.Outside.torn c.args.out.now)) w told)
+
+pub dispatch-returns-in-Eval-clause-answer : goal.dispatch-returns-in-Eval-clause-answer
+dispatch-returns-in-Eval-clause-answer g t c bound h w told =
+    runs_as (ap (λ b. row b (evaluator bound) (top c.args.n c.args.self.now.values.store.stack) (state_of c.args.self.now w)) (sym c.in-Eval.is))
+    (c.cmd_eval.ensures.answer bound h w told)
+
+pub dispatch-returns-in-Data-clause-answer : goal.dispatch-returns-in-Data-clause-answer
+dispatch-returns-in-Data-clause-answer g t c bound h w told =
+    runs_as (ap (λ b. row b (evaluator bound) (top c.args.n c.args.self.now.values.store.stack) (state_of c.args.self.now w)) (sym c.in-Data.is))
+    (c.cmd_data.ensures.answer (outer (g.O.Outside.told c.args.out.now) (g.O.Outside.torn c.args.out.now)) w told)
+
+-- ---- eval
+
+pub script_at-returns-in_err-tree-clause-answer : goal.script_at-returns-in_err-tree-clause-answer
+script_at-returns-in_err-tree-clause-answer g t c bound h w told = memory_runs (search rules) told refl
+
+pub script_at-returns-clause-answer : goal.script_at-returns-clause-answer
+script_at-returns-clause-answer g t c bound h w told =
+    let mid = record c.args.self.now { values = c.script.new.self } in
+    let script = commands (text_at c.args.self.now.values.store c.args.at) in
+    from_same c.args.self.now mid (λ st. (evaluator bound).script script st) (values_same c.args.self.now c.script.new.self c.in_ok-tree.ensures.same)
+    (runs_as (ap (λ s. (evaluator bound).script s (state_of mid w)) (c.deref.ensures ∙ c.in_ok-tree.ensures.tree))
+    (c.script-2.ensures.answer bound h w told))
+
+pub eval_words-returns-in_err-concat-clause-answer : goal.eval_words-returns-in_err-concat-clause-answer
+eval_words-returns-in_err-concat-clause-answer g t c bound h w told = memory_runs (search rules) told c.in_err-concat.ensures.same.events
+
+pub eval_words-returns-clause-answer : goal.eval_words-returns-clause-answer
+eval_words-returns-clause-answer g t c bound h w told =
+    let same = c.in_ok-concat.ensures.same in
+    let joined = concatenated (top c.args.n c.args.self.now.values.store.stack) in
+    from_same c.args.self.now c.concat.new.self (λ st. (evaluator bound).script (commands joined) st) same
+    (runs_as (ap (λ t. (evaluator bound).script (commands t) (state_of c.concat.new.self w)) (replaced_last _ joined c.concat.new.self.values.store.stack _ c.in_ok-concat.ensures.joined (ap (λ l. l - 1) c.height.ensures)))
+    (c.script_at.ensures.answer bound (omega (arith, h, same.units)) w told))
+
+pub eval_words-returns-clause-stack : goal.eval_words-returns-clause-stack
+eval_words-returns-clause-stack g t c = replaced_under _ _ c.concat.new.self.values.store.stack c.script_at.result c.script_at.new.self.values.store.stack c.in_ok-concat.ensures.joined c.script_at.ensures.stack
+
+pub cmd_eval-returns-in-1-clause-answer : goal.cmd_eval-returns-in-1-clause-answer
+cmd_eval-returns-in-1-clause-answer g t c bound h w told =
+    let stack = c.args.self.now.values.store.stack in
+    runs_as (eval_refused (evaluator bound) stack c.args.n (state_of c.args.self.now w) c.in-1.is c.requires.words)
+    (usage_runs c.args.self.now eval_usage _ (top c.args.n stack) told c.eval_usage.ensures.same
+    (ap (λ l. get_or stack (l - c.args.n) []) c.height.ensures ∙ first_of_top stack c.args.n c.requires.some c.requires.words) c.eval_usage.ensures.raises)
+
+pub cmd_eval-returns-in_default-clause-answer : goal.cmd_eval-returns-in_default-clause-answer
+cmd_eval-returns-in_default-clause-answer g t c bound h w told =
+    runs_as (eval_joined (evaluator bound) c.args.self.now.values.store.stack c.args.n (state_of c.args.self.now w) c.requires.some (λ e. search (rules, e, c.in_default)) c.requires.words)
+    (c.eval_words.ensures.answer bound h w told)
+
+pub cmd_eval-returns-in_default-clause-stack : goal.cmd_eval-returns-in_default-clause-stack
+cmd_eval-returns-in_default-clause-stack g t c =
+    over_call c.args.n c.args.self.now.values.store.stack c.eval_words.result c.eval_words.new.self.values.store.stack c.requires.some c.requires.words c.eval_words.ensures.stack

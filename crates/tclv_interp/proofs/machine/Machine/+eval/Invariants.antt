@@ -7,31 +7,46 @@ use Rattle.tclv_interp.proofs.Walks.{Walk}
 use Rattle.tclv_interp.proofs.machine.Machine.+eval.Given as goal
 
 abbrev pub decreases-command : goal.decreases-command
-decreases-command g l = 2048 * l.self.now.units + 1
+decreases-command g l = 65536 * l.self.now.units + 1
 
 abbrev pub decreases-commands : goal.decreases-commands
-decreases-commands g l = 2048 * l.self.now.units + 2
+decreases-commands g l = 65536 * l.self.now.units + 2
 
 abbrev pub decreases-script : goal.decreases-script
-decreases-script g l = 2048 * l.self.now.units + 3
+decreases-script g l = 65536 * l.self.now.units + 3
+
+abbrev pub decreases-script_at : goal.decreases-script_at
+decreases-script_at g l = 65536 * l.self.now.units + 10
+
+abbrev pub decreases-eval_words : goal.decreases-eval_words
+decreases-eval_words g l = 65536 * l.self.now.units + 41000
+
+abbrev pub decreases-cmd_eval : goal.decreases-cmd_eval
+decreases-cmd_eval g l = 65536 * l.self.now.units + 42000
+
+abbrev pub decreases-dispatch : goal.decreases-dispatch
+decreases-dispatch g l = 65536 * l.self.now.units + 43000
+
+abbrev pub decreases-call : goal.decreases-call
+decreases-call g l = 65536 * l.self.now.units + 44000
 
 abbrev pub decreases-element : goal.decreases-element
-decreases-element g l = 2048 * l.self.now.units + 8 * l.levels + 4
+decreases-element g l = 65536 * l.self.now.units + 8 * l.levels + 4
 
 abbrev pub decreases-part : goal.decreases-part
-decreases-part g l = 2048 * l.self.now.units + 8 * l.levels + 5
+decreases-part g l = 65536 * l.self.now.units + 8 * l.levels + 5
 
 abbrev pub decreases-join : goal.decreases-join
-decreases-join g l = 2048 * l.self.now.units + 8 * l.levels + 6
+decreases-join g l = 65536 * l.self.now.units + 8 * l.levels + 6
 
 abbrev pub decreases-substitute : goal.decreases-substitute
-decreases-substitute g l = 2048 * l.self.now.units + 8 * l.levels + 7
+decreases-substitute g l = 65536 * l.self.now.units + 8 * l.levels + 7
 
 abbrev pub decreases-word : goal.decreases-word
-decreases-word g l = 2048 * l.self.now.units + 1000
+decreases-word g l = 65536 * l.self.now.units + 1000
 
 abbrev pub decreases-words : goal.decreases-words
-decreases-words g l = 2048 * l.self.now.units + 1001
+decreases-words g l = 65536 * l.self.now.units + 1001
 
 abbrev pub invariant-commands-loop-command : goal.invariant-commands-loop-command
 invariant-commands-loop-command g l =

@@ -1,0 +1,20 @@
+use Rattle.std.proofs.Common.{◌∙◌, sym, ap, subst, ◌-◌, [], List, ℕ, length}
+use Rattle.std.specs.Prelude.{slice_index_or}
+use Rattle.tclv_value.specs.Stacks.{top}
+use Rattle.tclv_value.specs.View.{text_at}
+use Rattle.tclv_value.specs.declared.places.At.TheVariants.{Stack}
+use Rattle.tclv_lists.specs.Replies as replies
+use Rattle.tclv_interp.specs.Names.{bytes_of}
+use Rattle.tclv_interp.specs.CellRows as cells
+use Rattle.tclv_interp.proofs.NameLemmas.{bytes-are}
+use Rattle.tclv_interp.proofs.values.Values.change_unset.Goals as goal
+
+pub returns : goal.returns
+returns c =
+    let stack = c.args.self.now.store.stack in
+    let row = cells.row_of c.args.command (replies.call_word c.args.n stack) (top c.args.n stack) in
+    let name = slice_index_or stack (length stack - c.args.n) [] in
+    let P : List ℕ → Type 0 = λ b. cells.Changes row c.args.n b c.args.self.now c.change_named.new.self c.change_named.result in
+    let stack_is = ap (λ h. h.store.stack) c.self.view_is in
+    let text = c.bytes.ensures.text ∙ c.in_ok-name.ensures ∙ ap (λ s. slice_index_or s (c.height.result - c.args.n) []) stack_is ∙ ap (λ k. slice_index_or stack (k - c.args.n) []) (c.height.ensures ∙ ap length stack_is) in
+    subst P (bytes-are c.bytes.result.now name c.bytes.ensures.utf8 text) c.change_named.ensures
