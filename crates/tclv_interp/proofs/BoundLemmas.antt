@@ -1,8 +1,6 @@
 -- Every bound that is at least the units left gives the same.
 use Rattle.std.proofs.Common.{◌≤◌, ◌<◌, ◌+◌, ◌++◌, ℕ, zero, suc, nat_lt, Bool, true, false, List, [], ◌∷◌, Option, Some, None, arith, ap}
 use Rattle.tclv_parse.specs.declared.faults.ParseFault.{ParseFault}
-use Rattle.tclv_parse.specs.declared.tree.Part.{Part, out-Part}
-use Rattle.tclv_parse.specs.declared.tree.Part.TheOpen as part
 use Rattle.tclv_parse.specs.declared.tree.Word.{Word, out-Word}
 use Rattle.tclv_parse.specs.declared.tree.Command.{Command, out-Command}
 use Rattle.tclv_parse.specs.declared.tree.Script.{Script, out-Script}
@@ -10,48 +8,24 @@ use Rattle.tclv_interp.specs.declared.builtins.Builtin.{Builtin}
 use Rattle.tclv_interp.specs.State.{Text, State}
 use Rattle.tclv_interp.specs.Results.{Res, Outcome, plain}
 use Rattle.tclv_interp.specs.Names.{bytes_of, is_qualified}
-use Rattle.tclv_interp.specs.Words.{Evaluator, part_by, joined, element, part_value, max_levels, substitution, expanded, word, words}
+use Rattle.tclv_interp.specs.Words.{Evaluator, expanded, word, words}
 use Rattle.tclv_interp.specs.Builtins.{builtin_of, resolved, resolve}
 use Rattle.tclv_interp.specs.Evaluation.{call, command, end_of, sequence, back_to, nested, evaluate, none_left, evaluator}
 use Rattle.tclv_interp.specs.Bounds.{BoundsAgree}
-use Rattle.tclv_interp.proofs.SameLemmas.{Same, Agree, EvaluatorsAgree, with_itself, if_same, bind_same, unit_same, variable_same}
-use Rattle.tclv_interp.proofs.RowBoundLemmas.{rows_agree, of_answer-same}
+use Rattle.tclv_interp.proofs.SameLemmas.{Same, Agree, EvaluatorsAgree, with_itself, if_same, bind_same, unit_same}
+use Rattle.tclv_interp.proofs.WordBoundLemmas.{substitution_agree}
+use Rattle.tclv_interp.proofs.RowBoundLemmas.{rows_agree}
+use Rattle.tclv_interp.proofs.ForeachBoundLemmas.{of_answer_same}
 use Rattle.tclv_model.specs.Values.{list_of}
 
 -- ---- words
 
-part-agree : (n : ℕ) (ev ev' : Evaluator) (el el' : List Part → State → Res Text) → EvaluatorsAgree n ev ev' →
-    ((index : List Part) → Agree n (el index) (el' index)) → (p : part.Part-F Part Command Script Word) → Agree n (part_by ev el p) (part_by ev' el' p)
-part-agree n ev ev' el el' h k (part.Literal text) st u = with_itself u
-part-agree n ev ev' el el' h k (part.Variable name) st u = variable_same n name st u
-part-agree n ev ev' el el' h k (part.Element name index) st u = k index st u
-part-agree n ev ev' el el' h k (part.Script script) st u = bind_same (h script st u) (λ o s1 v. with_itself v)
-
-joined-agree : (n : ℕ) (value value' : Part → State → Res Text) → ((p : Part) → Agree n (value p) (value' p)) →
-    (before : Text) (ps : List Part) → Agree n (joined value before ps) (joined value' before ps)
-unfolding joined
-joined-agree n value value' h before [] st u = with_itself u
-joined-agree n value value' h before (p ∷ ps) st u = bind_same (h p st u) (λ text. joined-agree n value value' h (before ++ text) ps)
-
-element-agree : (levels n : ℕ) (ev ev' : Evaluator) → EvaluatorsAgree n ev ev' → (index : List Part) → Agree n (element levels ev index) (element levels ev' index)
-unfolding element
-element-agree zero n ev ev' h index st u = with_itself u
-element-agree (suc levels) n ev ev' h index st u =
-    bind_same
-    (joined-agree n (part_value levels ev) (part_value levels ev') (λ p. part-agree n ev ev' (element levels ev) (element levels ev') h (element-agree levels n ev ev' h) (out-Part p)) [] index st u)
-    (λ text s1 v. with_itself v)
-
-substitution-agree : (n : ℕ) (ev ev' : Evaluator) → EvaluatorsAgree n ev ev' → (parts : List Part) → Agree n (substitution ev parts) (substitution ev' parts)
-substitution-agree n ev ev' h parts =
-    joined-agree n (part_value max_levels ev) (part_value max_levels ev')
-    (λ p. part-agree n ev ev' (element max_levels ev) (element max_levels ev') h (element-agree max_levels n ev ev' h) (out-Part p)) [] parts
-
 expanded-same : (n : ℕ) (mark : Bool) (text : Text) → Agree n (expanded mark text) (expanded mark text)
 expanded-same n false text st u = with_itself u
-expanded-same n true text st u = of_answer-same n (list_of text) st u
+expanded-same n true text st u = of_answer_same n (list_of text) st u
 
 word-agree : (n : ℕ) (ev ev' : Evaluator) → EvaluatorsAgree n ev ev' → (w : Word) → Agree n (word ev w) (word ev' w)
-word-agree n ev ev' h w st u = bind_same (substitution-agree n ev ev' h (out-Word w).parts st u) (expanded-same n (out-Word w).expand)
+word-agree n ev ev' h w st u = bind_same (substitution_agree n ev ev' h (out-Word w).parts st u) (expanded-same n (out-Word w).expand)
 
 words-agree : (n : ℕ) (ev ev' : Evaluator) → EvaluatorsAgree n ev ev' → (before : List Text) (ws : List Word) → Agree n (words ev before ws) (words ev' before ws)
 unfolding words

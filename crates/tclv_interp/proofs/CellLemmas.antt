@@ -1,12 +1,14 @@
 -- What data commands answer that are handed a variable.
-use Rattle.std.proofs.Common.{◌≡◌, ℕ, ◌+◌, ◌-◌, ◌<◌, ◌≤◌, List, [], ◌∷◌, ◌++◌, length, take, drop, get_or, length-append, sym, ap, ◌∙◌, refl, subst, arith, Result, Ok, Err, Some, None, true, false, Bool, nat_eq, Option}
-use Rattle.std.specs.Prelude.{OnOk, OnErr, IfErr, ◌||◌, codes}
+use Rattle.std.proofs.Common.{◌≡◌, ℕ, ◌-◌, ◌<◌, ◌≤◌, List, [], ◌∷◌, ◌++◌, length, take, get_or, length-append, sym, ap, ◌∙◌, refl, subst, arith, Result, Ok, Err, Some, None, true, false, Bool, nat_eq, Option}
+use Rattle.std.specs.Prelude.{OnOk, IfErr, ◌||◌, codes}
 use Rattle.std.specs.Ordering.{nat_cmp}
+use Rattle.std.specs.Str.{chars}
 use Rattle.std.specs.Option.{unwrap_or}
 use Rattle.std.specs.FinMap.{FinMap, get, insert}
-use Rattle.std.proofs.lemmas.List.{drop_more, drop_all}
+use Rattle.std.proofs.lemmas.List.{append_assoc, drop_more, drop_all}
 use Rattle.std.proofs.Math.Seq.{take-append_seam}
 use Rattle.std.proofs.lemmas.Option.{none-some}
+use Rattle.std.proofs.lemmas.Str.{chars-nil}
 use Rattle.std.proofs.lemmas.Bool.{eqb-true, cond-true, cond-false}
 use Rattle.tclv_vars.specs.declared.places.Home.{Home}
 use Rattle.tclv_io.specs.World.{World}
@@ -22,6 +24,8 @@ use Rattle.tclv_model.specs.declared.data_commands.CmdFault.{CmdFault}
 use Rattle.tclv_model.specs.declared.data_commands.CmdFault.TheVariants as fault
 use Rattle.tclv_model.specs.declared.data_commands.VarState.{VarState}
 use Rattle.tclv_model.specs.declared.data_commands.VarState.TheVariants as var
+use Rattle.tclv_model.specs.declared.messages.MessageId.TheVariants.{CannotReadArray}
+use Rattle.tclv_model.specs.Message.{text_of}
 use Rattle.tclv_model.specs.Rows.{Answer, Gives, Refuses as Declined, VarAnswer, Variable, Unset, WholeArray, PlainElement}
 use Rattle.tclv_value.specs.View.{View, IsMade}
 use Rattle.tclv_value.specs.Stacks.{top, under}
@@ -35,21 +39,23 @@ use Rattle.tclv_interp.specs.declared.cell_commands.CellCommand.TheVariants as c
 use Rattle.tclv_interp.specs.declared.endings.End.{End}
 use Rattle.tclv_interp.specs.declared.endings.End.TheVariants as end
 use Rattle.tclv_interp.specs.declared.machine.Machine.{Machine}
-use Rattle.tclv_interp.specs.Holdings.{Holdings, IsTied, SameVariables, Sets}
+use Rattle.tclv_interp.specs.Holdings.{Holdings, IsTied}
 use Rattle.tclv_interp.specs.State.{Text, State, state_of}
-use Rattle.tclv_interp.specs.Results.{Res, Outcome, bind, done, ok, plain, error}
+use Rattle.tclv_interp.specs.Results.{Res, Outcome, bind, done, ok, plain}
 use Rattle.tclv_interp.specs.Names.{bytes_of}
-use Rattle.tclv_interp.specs.Variables.{is_unbuilt, not_built, assign, write_cell}
+use Rattle.tclv_interp.specs.Variables.{is_unbuilt, not_built}
 use Rattle.tclv_interp.specs.Usages.{call_word}
+use Rattle.tclv_interp.specs.Operations.{second_of}
 use Rattle.tclv_interp.specs.Answers.{Outer, Runs, start, SameState, PushesResult, KeepsStack, as_result}
-use Rattle.tclv_interp.specs.DataRows.{of_answer, arguments, BecomesError, EndsRefused, HasReply}
-use Rattle.tclv_interp.specs.CellRows.{seen, variable_seen, unsettable, named, keep, unbuilt, on_variable, cell_row, row_of, Kept, Changes}
+use Rattle.tclv_interp.specs.DataRows.{of_answer, BecomesError, EndsRefused, HasReply}
+use Rattle.tclv_interp.specs.CellRows.{seen, variable_seen, unsettable, named, keep, is_of_array, unbuilt, on_variable, cell_row, row_of, Changes}
 use Rattle.tclv_interp.proofs.Binds.{runs_as, answers_as}
 use Rattle.tclv_interp.proofs.Leaves.{done_runs, raise_runs, raises_as}
-use Rattle.tclv_interp.proofs.StackLemmas.{last-pushed, take-under}
-use Rattle.tclv_interp.proofs.HoldingsLemmas.{tied_put, nat_eq-same}
+use Rattle.tclv_interp.proofs.StackLemmas.{last-pushed, over_push, take-under}
+use Rattle.tclv_interp.proofs.ExpressionLemmas.{second_over}
+use Rattle.tclv_interp.proofs.HoldingsLemmas.{tied_put}
 use Rattle.tclv_interp.proofs.VariableLemmas.{assign-write}
-use Rattle.tclv_interp.proofs.DataLemmas.{refused_as, refused_stack, results_stack, has_reply, call_is, arguments_are, message_below, code_on_top}
+use Rattle.tclv_interp.proofs.DataLemmas.{refused_as, refused_stack, results_stack, has_reply, call_is, arguments_are, message_below, code_on_top, under_reply}
 
 -- ---- rows that refuse
 
@@ -376,20 +382,20 @@ grown_stack base mid now more (end.Exit n) g h = tt
 grown_stack base mid now more end.Device g h = tt
 grown_stack base mid now more end.Memory g h = tt
 
+-- a refusal that isn't want of memory
+abbrev pub HasMessage : CmdFault → Type 0
+HasMessage fault.NoMemory = ⊥
+HasMessage kind = Unit {0}
+
 module _ (row : VarAnswer) (k : ℕ) (before after : View) where
-  pub unbuilt_refused : (e : End) (old new : Machine) (w : World) (here : Outer) → here.told ≡ Some w → SameState old new →
-      replies.Declines row fault.WrongArgs k before after → BecomesError after.stack e new.values.store.stack → Runs {T = Unit {0}} (unbuilt row (state_of old w)) as_result (start old w here.torn) (Err e) new here
-  unbuilt_refused e old new w here told same d b =
-      runs_as (ap (λ a. unbuilt a (state_of old w)) (sym d.refused))
-      (raise_runs {A = Outcome} {T = Unit {0}} {shows = as_result} old told same
-      (raises_as _ _ _ _ new.values.store.stack e (message_below (under k before.stack) after.stack d.message d.code d.stack) (code_on_top (under k before.stack) after.stack d.message d.code d.stack) b.0))
+  by_message : (kind : CmdFault) → HasMessage kind → replies.IsRefused row kind k before after → replies.Declines row kind k before after
+  by_message fault.NoMemory m h = absurd m
+  by_message fault.WrongArgs m h = h
+  by_message fault.Message m h = h
 
   -- the refusal and the result of a call, by what it answered
-  pub wrong_words : (variable : VarState) (r : Result (Unit {0}) CmdFault) → r ≡ Err fault.WrongArgs → replies.VarAnswers row variable k before after r → replies.Declines row fault.WrongArgs k before after
-  wrong_words variable r e h = let P : Result (Unit {0}) CmdFault → Type 0 = λ x. IfErr x (λ kind. replies.IsRefused row kind k before after) in subst P e h.refuses
-
-  pub refused_words : (variable : VarState) (r : Result (Unit {0}) CmdFault) → r ≡ Err fault.Message → replies.VarAnswers row variable k before after r → replies.Declines row fault.Message k before after
-  refused_words variable r e h = let P : Result (Unit {0}) CmdFault → Type 0 = λ x. IfErr x (λ kind. replies.IsRefused row kind k before after) in subst P e h.refuses
+  pub declined_words : (variable : VarState) (kind : CmdFault) (r : Result (Unit {0}) CmdFault) → HasMessage kind → r ≡ Err kind → replies.VarAnswers row variable k before after r → replies.Declines row kind k before after
+  declined_words variable kind r m e h = let P : Result (Unit {0}) CmdFault → Type 0 = λ x. IfErr x (λ f. replies.IsRefused row f k before after) in by_message kind m (subst P e h.refuses)
 
   pub changed_words : (variable : VarState) (r : Result (Unit {0}) CmdFault) → r ≡ Ok tt → replies.VarAnswers row variable k before after r → replies.Changes row variable k before after
   changed_words variable r e h = let P : Result (Unit {0}) CmdFault → Type 0 = λ x. OnOk x (replies.Changes row variable k before after) in subst P e h.gives
@@ -400,6 +406,34 @@ module _ (row : VarAnswer) (k : ℕ) (before after : View) where
   pub unbuilt_given : (variable : VarState) (e : End) (now : List Text) → replies.Changes row variable k before after → KeepsStack {T = Unit {0}} after.stack (Err e) now → PushesResult {T = Unit {0}} (under k before.stack) (Err e) now
   unbuilt_given variable e now d h = grown_stack (under k before.stack) after.stack now (d.text ∷ []) e d.stack h
 
+second_is : (base stack : List Text) (message code : Text) → stack ≡ base ++ message ∷ code ∷ [] → second_of stack ≡ message
+second_is base stack message code e =
+    let below = base ++ message ∷ [] in
+    second_over below stack (over_push below stack code (e ∙ sym (append_assoc base (message ∷ []) (code ∷ [])))) (omega (arith, length-append base (message ∷ [])))
+    ∙ last-pushed base below message refl
+
+-- the message of an array, as the code makes it
+pub array_message : (first name : Text) → first ≡ name → text_of CannotReadArray first (chars []) ≡ text_of CannotReadArray name []
+array_message first name e = ap (λ t. text_of CannotReadArray t (chars [])) e ∙ ap (text_of CannotReadArray name) chars-nil
+
+-- what the refusal of a whole array does, by whether its message is the array's
+module _ (name : Text) (row : VarAnswer) (k : ℕ) (before after : View) (kind : CmdFault) (d : replies.Declines row kind k before after) where
+  message_is : (b : Bool) → b ≡ is_of_array name (second_of after.stack) → is_of_array name d.message ≡ b
+  message_is b e = ap (is_of_array name) (sym (second_is (under k before.stack) after.stack d.message d.code d.stack)) ∙ sym e
+
+  pub comes_to_variable : (st : State) → true ≡ is_of_array name (second_of after.stack) → not_built st ≡ unbuilt name row st
+  comes_to_variable st e = sym (ap (λ a. unbuilt name a st) d.refused ∙ cond-true _ _ _ (message_is true e))
+
+  pub refused_before : (e : End) (old new : Machine) (w : World) (here : Outer) → here.told ≡ Some w → SameState old new → false ≡ is_of_array name (second_of after.stack) →
+      BecomesError after.stack e new.values.store.stack → Runs {T = Unit {0}} (unbuilt name row (state_of old w)) as_result (start old w here.torn) (Err e) new here
+  refused_before e old new w here told same other b =
+      runs_as (sym (ap (λ a. unbuilt name a (state_of old w)) d.refused ∙ cond-false _ _ _ (message_is false other)))
+      (raise_runs {A = Outcome} {T = Unit {0}} {shows = as_result} old told same
+      (raises_as _ _ _ _ new.values.store.stack e (message_below (under k before.stack) after.stack d.message d.code d.stack) (code_on_top (under k before.stack) after.stack d.message d.code d.stack) b.0))
+
+  pub refused_under : (e : End) (now : List Text) → BecomesError after.stack e now → PushesResult {T = Unit {0}} (under k before.stack) (Err e) now
+  refused_under e now b = let P : List Text → Type 0 = λ base. KeepsStack {T = Unit {0}} base (Err e) now in subst P (under_reply (under k before.stack) after.stack d.message d.code d.stack) b.1
+
 -- ---- a variable by its name
 
 pub name_is : (bs : List ℕ) (name : Text) → bs ≡ bytes_of name → is_unbuilt bs ≡ false → is_unbuilt (bytes_of name) ≡ false
@@ -409,5 +443,5 @@ pub on_built : (name : Text) (row : Variable → VarAnswer) (st : State) → is_
     bind (of_answer (row (variable_seen (bytes_of name) st.vars st.texts)) st) (keep name) ≡ on_variable name row st
 on_built name row st h = sym (cond-false _ _ _ h)
 
-pub on_unbuilt : (bs : List ℕ) (name : Text) (row : Variable → VarAnswer) (st : State) → bs ≡ bytes_of name → is_unbuilt bs ≡ true → unbuilt (row WholeArray) st ≡ on_variable name row st
+pub on_unbuilt : (bs : List ℕ) (name : Text) (row : Variable → VarAnswer) (st : State) → bs ≡ bytes_of name → is_unbuilt bs ≡ true → unbuilt name (row WholeArray) st ≡ on_variable name row st
 on_unbuilt bs name row st e h = sym (cond-true _ _ _ (sym (ap is_unbuilt e) ∙ h))

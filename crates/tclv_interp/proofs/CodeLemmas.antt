@@ -4,7 +4,7 @@ use Rattle.std.proofs.lemmas.List.{append-nil}
 use Rattle.std.specs.Prelude.{codes, IfOk, Result, Ok, Err}
 use Rattle.std.specs.Str.{chars}
 use Rattle.tclv_text.specs.Quotes.{quoted, quoted_some}
-use Rattle.tclv_interp.specs.declared.endings.ErrorCode.TheVariants.{NoCode, WrongArguments, UnknownCommand, UnknownVariable, NotNumber, Overflow}
+use Rattle.tclv_interp.specs.declared.endings.ErrorCode.TheVariants.{NoCode, WrongArguments, UnknownCommand, UnknownVariable, NotNumber, Overflow, DivideByZero, ZeroToNegativePower}
 use Rattle.tclv_interp.specs.declared.endings.Leaving.TheVariants.{Break, Continue}
 use Rattle.tclv_interp.specs.Results.{code_options, plain_options, error_code}
 use Rattle.tclv_interp.specs.Answers.{options_of}
@@ -36,6 +36,14 @@ not_number name = refl
 pub overflow : (name : List ℕ) → chars (codes "ARITH IOVERFLOW {integer value too large to represent}") ≡ error_code Overflow name
 unfolding chars quoted quoted_some
 overflow name = refl
+
+pub divide_by_zero : (name : List ℕ) → chars (codes "ARITH DIVZERO {divide by zero}") ≡ error_code DivideByZero name
+unfolding chars quoted quoted_some
+divide_by_zero name = refl
+
+pub zero_to_negative_power : (name : List ℕ) → chars (codes "ARITH DOMAIN {exponentiation of zero by negative power}") ≡ error_code ZeroToNegativePower name
+unfolding chars quoted quoted_some
+zero_to_negative_power name = refl
 
 -- ---- the options of codes
 

@@ -6,19 +6,17 @@ use Rattle.std.proofs.Math.Seq.{take-append_seam}
 use Rattle.tclv_io.specs.World.{World}
 use Rattle.tclv_model.specs.declared.data_commands.CmdFault.{CmdFault}
 use Rattle.tclv_model.specs.declared.data_commands.CmdFault.TheVariants as fault
-use Rattle.tclv_model.specs.Rows.{Answer, Gives, Refuses, RowAnswer}
+use Rattle.tclv_model.specs.Rows.{Answer, RowAnswer}
 use Rattle.tclv_value.specs.View.{View}
 use Rattle.tclv_value.specs.Stacks.{top, under}
 use Rattle.tclv_lists.specs.Replies as replies
 use Rattle.tclv_interp.specs.declared.endings.End.{End}
-use Rattle.tclv_interp.specs.declared.endings.End.TheVariants as end
-use Rattle.tclv_interp.specs.declared.endings.Leaving.TheVariants.{Error}
 use Rattle.tclv_interp.specs.declared.machine.Machine.{Machine}
 use Rattle.tclv_interp.specs.State.{Text, State, state_of}
-use Rattle.tclv_interp.specs.Results.{Res, Outcome, bind, done, ok, plain, error}
+use Rattle.tclv_interp.specs.Results.{Res, bind, done, ok, plain}
 use Rattle.tclv_interp.specs.Usages.{call_word}
 use Rattle.tclv_interp.specs.Answers.{Outer, Runs, start, SameState, Raises, Above, KeepsStack, PushesResult, IsCalm, as_result, last_of}
-use Rattle.tclv_interp.specs.DataRows.{of_answer, arguments, data_row, BecomesError, EndsRefused, HasReply}
+use Rattle.tclv_interp.specs.DataRows.{of_answer, arguments, BecomesError, EndsRefused, HasReply}
 use Rattle.tclv_interp.proofs.Binds.{bind_stop, runs_as, answers_as}
 use Rattle.tclv_interp.proofs.Leaves.{value_runs, raise_runs, raises_as, memory_runs}
 use Rattle.tclv_interp.proofs.StackLemmas.{last-pushed, over_push}

@@ -1,5 +1,5 @@
 -- What is left of the stack where a list's elements take the place of its text.
-use Rattle.std.proofs.Common.{◌≡◌, ℕ, ◌+◌, ◌-◌, ◌≤◌, List, ◌++◌, length, take, sym, ap, ◌∙◌, subst, arith, length-append, Result, Ok, Err}
+use Rattle.std.proofs.Common.{◌≡◌, ◌-◌, List, ◌++◌, length, take, sym, ap, ◌∙◌, subst, arith, length-append, Result, Err}
 use Rattle.std.proofs.Math.Seq.{take-append_seam}
 use Rattle.tclv_value.specs.Stacks.{under}
 use Rattle.tclv_interp.specs.declared.endings.End.{End}

@@ -1,8 +1,7 @@
 -- What an interpreter answers, from how its script ended.
-use Rattle.std.proofs.Common.{◌≡◌, ℕ, ◌+◌, ◌<◌, ◌≤◌, List, [], ◌∷◌, ◌++◌, length, Result, Ok, Err, sym, ap, ◌∙◌, refl, subst, Some, arith}
+use Rattle.std.proofs.Common.{◌≡◌, ℕ, List, [], Result, Ok, Err, sym, ◌∙◌, refl, subst, Some, arith}
 use Rattle.std.proofs.lemmas.List.{append-nil}
 use Rattle.tclv_io.specs.World.{World}
-use Rattle.tclv_io.specs.Events.{next_length}
 use Rattle.tclv_model.specs.declared.outcomes.Code.{Code}
 use Rattle.tclv_model.specs.declared.outcomes.Code.TheVariants as code
 use Rattle.tclv_model.specs.declared.outcomes.Pair.{Pair}
@@ -11,13 +10,13 @@ use Rattle.tclv_interp.specs.declared.endings.End.TheVariants as end
 use Rattle.tclv_interp.specs.declared.machine.Machine.{Machine}
 use Rattle.tclv_interp.specs.declared.interpreters.Stop.{Stop}
 use Rattle.tclv_interp.specs.declared.interpreters.Stop.TheVariants as stop
-use Rattle.tclv_interp.specs.State.{Text, State, state_of}
-use Rattle.tclv_interp.specs.Results.{Ending, Done, Left, Budget, Exit, Res, Outcome, plain_options, error_options}
+use Rattle.tclv_interp.specs.State.{Text}
+use Rattle.tclv_interp.specs.Results.{Ending, Done, Left, Res, Outcome, plain_options}
 use Rattle.tclv_interp.specs.declared.endings.Leaving.{Leaving}
 use Rattle.std.specs.Prelude.{IfOk, OnOk, IfErr}
 use Rattle.tclv_interp.proofs.EventLemmas.{no_part}
 use Rattle.tclv_interp.specs.Answers.{Outer, Start, Ends, Cut, Gives, Runs, SameState, as_result, code_of, options_of, last_of, Over, Above, PushesOne, Caused}
-use Rattle.tclv_interp.specs.Interpreters.{EndsWith, Happened, CutShort, Says, Evaluates, Shows, HasResult, StopCause}
+use Rattle.tclv_interp.specs.Interpreters.{EndsWith, Happened, CutShort, Says, Evaluates, Shows}
 use Rattle.tclv_interp.proofs.Leaves.{same_state}
 
 -- all of it happened

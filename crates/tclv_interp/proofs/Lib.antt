@@ -21,6 +21,8 @@ pub mod WordLemmas
 pub mod DataLemmas
 pub mod CellLemmas
 pub mod ListLemmas
+pub mod ForeachLemmas
+pub mod EachLemmas
 pub mod WholeLemmas
 pub mod ChannelLemmas
 pub mod RunLemmas
@@ -30,4 +32,18 @@ pub mod SettingLemmas
 pub mod ExpandLemmas
 pub mod ScriptRowLemmas
 pub mod LoopRowLemmas
+pub mod LoopLemmas
+pub mod WhileRowLemmas
+pub mod LoopBoundLemmas
+pub mod ForeachBoundLemmas
 pub mod InterpreterLemmas
+pub mod OperationLemmas
+pub mod ExpressionFaultLemmas
+pub mod ExpressionLemmas
+pub mod ExpressionRowLemmas
+pub mod FunctionLemmas
+pub mod WordBoundLemmas
+pub mod ExpressionBoundLemmas
+pub mod IfLemmas
+pub mod IfBoundLemmas
+pub mod SwitchLemmas

@@ -1,6 +1,6 @@
 -- The elements of a list, and variables that get them.
 use Rattle.std.proofs.Common.{◌≡◌, ℕ, ◌+◌, ◌-◌, ◌<◌, ◌≤◌, List, [], ◌∷◌, ◌++◌, length, take, drop, get_or, sym, ap, ◌∙◌, refl, subst, arith, length-append, length-drop, length-take, Result, Ok, Err, Some, min, ⊎_elim}
-use Rattle.std.specs.Prelude.{OnOk, IfOk, IfErr, codes}
+use Rattle.std.specs.Prelude.{IfOk, IfErr, codes}
 use Rattle.std.proofs.lemmas.List.{drop_more, take_more, append_assoc, append-nil, drop-drop, drop_all, take_all, get_or-drop, get_or-take, get_or_default}
 use Rattle.std.proofs.lemmas.Bool.{cases_lt}
 use Rattle.std.specs.Str.{chars}
@@ -9,8 +9,7 @@ use Rattle.tclv_model.specs.Values.{list_of}
 use Rattle.std.proofs.Math.Seq.{take-append_seam}
 use Rattle.tclv_io.specs.World.{World}
 use Rattle.tclv_model.specs.declared.data_commands.CmdFault.{CmdFault}
-use Rattle.tclv_model.specs.declared.data_commands.CmdFault.TheVariants as fault
-use Rattle.tclv_model.specs.Rows.{Answer, Gives, Refuses}
+use Rattle.tclv_model.specs.Rows.{Answer}
 use Rattle.tclv_value.specs.View.{View}
 use Rattle.tclv_value.specs.Stacks.{top, under}
 use Rattle.tclv_lists.specs.Replies as replies
@@ -18,13 +17,13 @@ use Rattle.tclv_interp.specs.declared.endings.End.{End}
 use Rattle.tclv_interp.specs.declared.endings.End.TheVariants as end
 use Rattle.tclv_interp.specs.declared.machine.Machine.{Machine}
 use Rattle.tclv_interp.specs.State.{Text, State, state_of}
-use Rattle.tclv_interp.specs.Results.{Res, Outcome, bind, done, ok}
+use Rattle.tclv_interp.specs.Results.{Res, bind, done}
 use Rattle.tclv_interp.specs.Variables.{assign}
-use Rattle.tclv_interp.specs.Answers.{Outer, AtWorld, Start, Runs, start, SameState, Above, Leaves, KeepsStack, PushesOne, returned, as_result, last_of}
+use Rattle.tclv_interp.specs.Answers.{Outer, AtWorld, Start, Runs, start, SameState, Leaves, KeepsStack, returned}
 use Rattle.tclv_interp.specs.DataRows.{of_answer, BecomesError}
 use Rattle.tclv_interp.specs.ListAssignment.{next_of, assign_each, assign_list, lassign_usage, row_lassign, unseen}
 use Rattle.tclv_interp.specs.Usages.{usage}
-use Rattle.tclv_interp.proofs.Binds.{runs_as, bind_ok, bind_stop, bind-done}
+use Rattle.tclv_interp.proofs.Binds.{runs_as, bind_stop, bind-done}
 use Rattle.tclv_interp.proofs.Leaves.{raise_runs, raises_as, value_runs}
 use Rattle.tclv_interp.proofs.StackLemmas.{take-under, top-stacked}
 use Rattle.tclv_interp.proofs.WordLemmas.{top_length}

@@ -1,5 +1,5 @@
 -- Rows where few units are left: evaluators that agree there give the same, and no unit comes back.
-use Rattle.std.proofs.Common.{ℕ, ◌++◌, List, [], ◌∷◌, drop, length, true, false, Result, Ok, Err}
+use Rattle.std.proofs.Common.{ℕ, ◌++◌, List, [], ◌∷◌, drop, length, true, false, Option, Some, None, Result, Ok, Err}
 use Rattle.std.specs.List.{concat}
 use Rattle.std.specs.Prelude.{ℤ, pos, ◌+ℤ◌, codes}
 use Rattle.tclv_text.specs.declared.numbers.WholeFault.{WholeFault}
@@ -18,21 +18,26 @@ use Rattle.tclv_interp.specs.ChannelRows.{channel_named, line, is_nonewline, put
 use Rattle.tclv_interp.specs.RunRows.{exit_with, row_exit}
 use Rattle.tclv_interp.specs.LoopRows.{row_break, row_continue}
 use Rattle.tclv_interp.specs.ScriptRows.{row_eval}
+use Rattle.tclv_interp.specs.SwitchRows.{body_of, run_body, row_switch}
+use Rattle.tclv_ctl.specs.Switching as control
 use Rattle.tclv_lists.specs.Joining.{concatenated}
 use Rattle.tclv_parse.specs.Grammar.{commands}
-use Rattle.tclv_model.specs.Rows.{Answer, Gives, Refuses, RowAnswer, VarAnswer, Variable, WholeArray}
-use Rattle.tclv_model.specs.declared.data_commands.CmdFault.TheVariants as fault
+use Rattle.tclv_model.specs.Rows.{Gives, Refuses, RowAnswer, VarAnswer, Variable, WholeArray}
 use Rattle.tclv_interp.specs.Names.{bytes_of}
 use Rattle.tclv_interp.specs.Variables.{is_unbuilt}
 use Rattle.tclv_text.specs.Quotes.{list_text}
 use Rattle.tclv_model.specs.Values.{list_of}
-use Rattle.tclv_interp.specs.ListAssignment.{next_of, assign_each, assign_list, row_lassign}
+use Rattle.tclv_interp.specs.ListAssignment.{assign_list, row_lassign}
 use Rattle.tclv_interp.specs.CellRows as cells
-use Rattle.tclv_interp.specs.CellRows.{keep, unbuilt, on_variable, cell_row, variable_seen, named}
+use Rattle.tclv_interp.specs.CellRows.{keep, is_of_array, unbuilt, on_variable, cell_row, variable_seen, named}
 use Rattle.tclv_interp.specs.Usages.{call_word}
-use Rattle.tclv_interp.specs.DataRows.{of_answer, arguments, data_row, row_of}
+use Rattle.tclv_interp.specs.DataRows.{arguments, data_row, row_of}
 use Rattle.tclv_interp.specs.Builtins.{row}
+use Rattle.tclv_interp.proofs.ExpressionBoundLemmas.{expr_agree}
+use Rattle.tclv_interp.proofs.IfBoundLemmas.{if_agree}
 use Rattle.tclv_interp.proofs.SameLemmas.{Agree, EvaluatorsAgree, with_itself, if_same, bind_same, variable_same, assign_same}
+use Rattle.tclv_interp.proofs.LoopBoundLemmas.{while_agree, for_agree}
+use Rattle.tclv_interp.proofs.ForeachBoundLemmas.{of_answer_same, assign_each_same, foreach_agree, lmap_agree}
 
 -- ---- set
 
@@ -149,46 +154,44 @@ eval-agree n ev ev' h (word ∷ arg ∷ args) st u = h (commands (concatenated (
 
 -- ---- data commands
 
-pub of_answer-same : {A : Type 0} (n : ℕ) (answer : Answer A) → Agree n (of_answer answer) (of_answer answer)
-of_answer-same n (Gives a) st u = with_itself u
-of_answer-same n (Refuses kind message code) st u = with_itself u
-
 data-same : (n : ℕ) (r : Text → List Text → RowAnswer) (words : List Text) → Agree n (data_row r words) (data_row r words)
-data-same n r words st u = bind_same (of_answer-same n (r (call_word words) (arguments words)) st u) (ok-same n)
+data-same n r words st u = bind_same (of_answer_same n (r (call_word words) (arguments words)) st u) (ok-same n)
 
 -- ---- data commands that are handed a variable
 
 keep-same : (n : ℕ) (name : Text) (given : Text × Text) → Agree n (keep name given) (keep name given)
 keep-same n name given st u = bind_same (assign_same n name given.1 st u) (λ kept. ok-same n given.0)
 
-unbuilt-same : (n : ℕ) (answer : VarAnswer) → Agree n (unbuilt answer) (unbuilt answer)
-unbuilt-same n (Gives a) st u = with_itself u
-unbuilt-same n (Refuses fault.WrongArgs message code) st u = with_itself u
-unbuilt-same n (Refuses fault.Message message code) st u = with_itself u
-unbuilt-same n (Refuses fault.NoMemory message code) st u = with_itself u
+unbuilt-same : (n : ℕ) (name : Text) (answer : VarAnswer) → Agree n (unbuilt name answer) (unbuilt name answer)
+unbuilt-same n name (Gives a) st u = with_itself u
+unbuilt-same n name (Refuses kind message code) st u = if_same (is_of_array name message) (with_itself u) (with_itself u)
 
 on_variable-same : (n : ℕ) (name : Text) (r : Variable → VarAnswer) → Agree n (on_variable name r) (on_variable name r)
 on_variable-same n name r st u =
-    if_same (is_unbuilt (bytes_of name)) (unbuilt-same n (r WholeArray) st u)
-    (bind_same (of_answer-same n (r (variable_seen (bytes_of name) st.vars st.texts)) st u) (keep-same n name))
+    if_same (is_unbuilt (bytes_of name)) (unbuilt-same n name (r WholeArray) st u)
+    (bind_same (of_answer_same n (r (variable_seen (bytes_of name) st.vars st.texts)) st u) (keep-same n name))
 
 cell-same : (n : ℕ) (r : Text → List Text → Variable → VarAnswer) (words : List Text) → Agree n (cell_row r words) (cell_row r words)
 cell-same n r words = on_variable-same n (named (arguments words)) (r (call_word words) (arguments words))
 
 -- ---- lassign
 
-assign_each-same : (n : ℕ) (names values : List Text) → Agree n (assign_each names values) (assign_each names values)
-unfolding assign_each
-assign_each-same n [] values st u = with_itself u
-assign_each-same n (name ∷ names) values st u = bind_same (assign_same n name (next_of values) st u) (λ kept. assign_each-same n names (drop 1 values))
-
 assign_list-same : (n : ℕ) (names values : List Text) → Agree n (assign_list names values) (assign_list names values)
-assign_list-same n names values st u = bind_same (assign_each-same n names values st u) (λ done. ok-same n (list_text (drop (length names) values)))
+assign_list-same n names values st u = bind_same (assign_each_same n names values st u) (λ done. ok-same n (list_text (drop (length names) values)))
 
 lassign-same : (n : ℕ) (words : List Text) → Agree n (row_lassign words) (row_lassign words)
 lassign-same n [] st u = with_itself u
 lassign-same n (word ∷ []) st u = with_itself u
-lassign-same n (word ∷ list ∷ names) st u = bind_same (of_answer-same n (list_of list) st u) (assign_list-same n names)
+lassign-same n (word ∷ list ∷ names) st u = bind_same (of_answer_same n (list_of list) st u) (assign_list-same n names)
+
+-- ---- switch
+
+run_body-agree : (n : ℕ) (ev ev' : Evaluator) → EvaluatorsAgree n ev ev' → (body : Option Text) → Agree n (run_body ev body) (run_body ev' body)
+run_body-agree n ev ev' h (Some body) = h (commands body)
+run_body-agree n ev ev' h None = ok-same n []
+
+switch-agree : (n : ℕ) (ev ev' : Evaluator) → EvaluatorsAgree n ev ev' → (words : List Text) → Agree n (row_switch ev words) (row_switch ev' words)
+switch-agree n ev ev' h words st u = bind_same (of_answer_same n (control.row_switch (call_word words) (arguments words)) st u) (λ asked. run_body-agree n ev ev' h (body_of asked))
 
 -- ---- the row of each command
 
@@ -200,7 +203,14 @@ rows_agree n ev ev' h (builtin.Cell c) = cell-same n (cells.row_of c)
 rows_agree n ev ev' h (builtin.Data c) = data-same n (row_of c)
 rows_agree n ev ev' h builtin.Eval = eval-agree n ev ev' h
 rows_agree n ev ev' h builtin.Exit = exit-same n
+rows_agree n ev ev' h builtin.Expr = expr_agree n ev ev' h
+rows_agree n ev ev' h builtin.For = for_agree n ev ev' h
+rows_agree n ev ev' h builtin.Foreach = foreach_agree n ev ev' h
+rows_agree n ev ev' h builtin.If = if_agree n ev ev' h
 rows_agree n ev ev' h builtin.Incr = incr-same n
 rows_agree n ev ev' h builtin.Lassign = lassign-same n
+rows_agree n ev ev' h builtin.Lmap = lmap_agree n ev ev' h
 rows_agree n ev ev' h builtin.Puts = puts-same n
 rows_agree n ev ev' h builtin.Set = set-same n
+rows_agree n ev ev' h builtin.Switch = switch-agree n ev ev' h
+rows_agree n ev ev' h builtin.While = while_agree n ev ev' h

@@ -1,6 +1,5 @@
 -- A variable that is set to a text that was pushed.
-use Rattle.std.proofs.Common.{◌≡◌, ◌<◌, ◌+◌, ◌-◌, ℕ, List, [], ◌∷◌, ◌++◌, length, None, Ok, sym, ap, ◌∙◌, refl, arith, true, false, length-append}
-use Rattle.std.specs.Prelude.{if◌then◌else◌}
+use Rattle.std.proofs.Common.{◌≡◌, ◌-◌, ℕ, List, [], ◌∷◌, ◌++◌, length, None, Ok, sym, ap, ◌∙◌, refl, false}
 use Rattle.std.specs.FinMap.{insert}
 use Rattle.std.specs.Str.{chars}
 use Rattle.tclv_text.specs.Texts.{IsText}
@@ -16,8 +15,8 @@ use Rattle.std.specs.FinMap.{get}
 use Rattle.std.proofs.lemmas.List.{get_or_push, get_or_append_left}
 use Rattle.tclv_io.specs.World.{World}
 use Rattle.tclv_interp.specs.declared.machine.Machine.{Machine}
-use Rattle.tclv_interp.specs.State.{Text, State, state_of}
-use Rattle.tclv_interp.specs.Variables.{assign, is_unbuilt, write_cell}
+use Rattle.tclv_interp.specs.State.{Text, state_of}
+use Rattle.tclv_interp.specs.Variables.{assign, is_unbuilt}
 use Rattle.tclv_interp.proofs.NameLemmas.{bytes-are}
 use Rattle.tclv_interp.proofs.StackLemmas.{last-pushed}
 use Rattle.tclv_interp.proofs.VariableLemmas.{assign-write}

@@ -48,21 +48,21 @@ top_three stack i e =
     ap (λ n. drop n stack) b
     ∙ word_more stack i (i + 1) _ refl (omega (arith, e)) (word_more stack (i + 1) (i + 2) _ (omega arith) (omega (arith, e)) (one_word stack (i + 2) (omega (arith, e))))
 
-four_words : (stack : List Text) (i : ℕ) → i + 4 ≡ length stack → drop i stack ≡ get_or stack i [] ∷ get_or stack (i + 1) [] ∷ get_or stack (i + 2) [] ∷ get_or stack (i + 3) [] ∷ []
-four_words stack i e =
-    word_more stack i (i + 1) _ refl (omega (arith, e))
-    (word_more stack (i + 1) (i + 2) _ (omega arith) (omega (arith, e)) (word_more stack (i + 2) (i + 3) _ (omega arith) (omega (arith, e)) (one_word stack (i + 3) (omega (arith, e)))))
-
 pub top_four : (stack : List Text) (i : ℕ) → i + 4 ≡ length stack → top 4 stack ≡ get_or stack i [] ∷ get_or stack (i + 1) [] ∷ get_or stack (i + 2) [] ∷ get_or stack (i + 3) [] ∷ []
 top_four stack i e =
     let b : length stack - 4 ≡ i = omega (arith, e) in
-    ap (λ n. drop n stack) b ∙ four_words stack i e
+    ap (λ n. drop n stack) b
+    ∙ word_more stack i (i + 1) _ refl (omega (arith, e))
+    (word_more stack (i + 1) (i + 2) _ (omega arith) (omega (arith, e)) (word_more stack (i + 2) (i + 3) _ (omega arith) (omega (arith, e)) (one_word stack (i + 3) (omega (arith, e)))))
 
-pub top_five : (stack : List Text) (i low : ℕ) → low ≡ i + 1 → i + 5 ≡ length stack →
-    top 5 stack ≡ get_or stack i [] ∷ get_or stack low [] ∷ get_or stack (low + 1) [] ∷ get_or stack (low + 2) [] ∷ get_or stack (low + 3) [] ∷ []
-top_five stack i low l e =
+pub top_five : (stack : List Text) (i : ℕ) → i + 5 ≡ length stack →
+    top 5 stack ≡ get_or stack i [] ∷ get_or stack (i + 1) [] ∷ get_or stack (i + 2) [] ∷ get_or stack (i + 3) [] ∷ get_or stack (i + 4) [] ∷ []
+top_five stack i e =
     let b : length stack - 5 ≡ i = omega (arith, e) in
-    ap (λ n. drop n stack) b ∙ word_more stack i low _ l (omega (arith, l, e)) (four_words stack low (omega (arith, l, e)))
+    ap (λ n. drop n stack) b
+    ∙ word_more stack i (i + 1) _ refl (omega (arith, e))
+    (word_more stack (i + 1) (i + 2) _ (omega arith) (omega (arith, e))
+    (word_more stack (i + 2) (i + 3) _ (omega arith) (omega (arith, e)) (word_more stack (i + 3) (i + 4) _ (omega arith) (omega (arith, e)) (one_word stack (i + 4) (omega (arith, e))))))
 
 pub top_length : (stack : List Text) (n : ℕ) → n ≤ length stack → length (top n stack) ≡ n
 top_length stack n h = omega (arith, length-drop (length stack - n) stack)

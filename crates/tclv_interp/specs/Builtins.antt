@@ -14,7 +14,12 @@ use Rattle.tclv_interp.specs.VariableRows.{row_append, row_incr, row_set}
 use Rattle.tclv_interp.specs.ChannelRows.{row_puts}
 use Rattle.tclv_interp.specs.RunRows.{row_exit}
 use Rattle.tclv_interp.specs.LoopRows.{row_break, row_continue}
+use Rattle.tclv_interp.specs.WhileRows.{row_for, row_while}
+use Rattle.tclv_interp.specs.ForeachRows.{row_foreach, row_lmap}
 use Rattle.tclv_interp.specs.ScriptRows.{row_eval}
+use Rattle.tclv_interp.specs.ExpressionRows.{row_expr}
+use Rattle.tclv_interp.specs.IfRows.{row_if}
+use Rattle.tclv_interp.specs.SwitchRows.{row_switch}
 use Rattle.tclv_interp.specs.declared.data_commands.DataCommand.TheVariants as command
 use Rattle.tclv_interp.specs.DataRows.{data_row, row_of}
 use Rattle.tclv_interp.specs.declared.cell_commands.CellCommand.TheVariants as cell
@@ -31,6 +36,10 @@ builtin_of name =
     if bytes_eq name (codes "continue") then Some builtin.Continue else (
     if bytes_eq name (codes "eval") then Some builtin.Eval else (
     if bytes_eq name (codes "exit") then Some builtin.Exit else (
+    if bytes_eq name (codes "expr") then Some builtin.Expr else (
+    if bytes_eq name (codes "for") then Some builtin.For else (
+    if bytes_eq name (codes "foreach") then Some builtin.Foreach else (
+    if bytes_eq name (codes "if") then Some builtin.If else (
     if bytes_eq name (codes "incr") then Some builtin.Incr else (
     if bytes_eq name (codes "join") then Some (builtin.Data command.Join) else (
     if bytes_eq name (codes "lappend") then Some (builtin.Cell cell.Lappend) else (
@@ -39,6 +48,7 @@ builtin_of name =
     if bytes_eq name (codes "linsert") then Some (builtin.Data command.Linsert) else (
     if bytes_eq name (codes "list") then Some (builtin.Data command.List) else (
     if bytes_eq name (codes "llength") then Some (builtin.Data command.Llength) else (
+    if bytes_eq name (codes "lmap") then Some builtin.Lmap else (
     if bytes_eq name (codes "lpop") then Some (builtin.Cell cell.Lpop) else (
     if bytes_eq name (codes "lrange") then Some (builtin.Data command.Lrange) else (
     if bytes_eq name (codes "lremove") then Some (builtin.Data command.Lremove) else (
@@ -51,7 +61,9 @@ builtin_of name =
     if bytes_eq name (codes "lsort") then Some (builtin.Data command.Lsort) else (
     if bytes_eq name (codes "puts") then Some builtin.Puts else (
     if bytes_eq name (codes "set") then Some builtin.Set else (
-    if bytes_eq name (codes "split") then Some (builtin.Data command.Split) else None))))))))))))))))))))))))))
+    if bytes_eq name (codes "split") then Some (builtin.Data command.Split) else (
+    if bytes_eq name (codes "switch") then Some builtin.Switch else (
+    if bytes_eq name (codes "while") then Some builtin.While else None)))))))))))))))))))))))))))))))))
 
 -- A name stands for its command. Qualified names aren't built yet.
 abbrev pub resolved : Option Builtin → Text → State → Res Builtin
@@ -70,7 +82,14 @@ row (builtin.Cell c) ev = cell_row (cells.row_of c)
 row (builtin.Data c) ev = data_row (row_of c)
 row builtin.Eval ev = row_eval ev
 row builtin.Exit ev = row_exit
+row builtin.Expr ev = row_expr ev
+row builtin.For ev = row_for ev
+row builtin.Foreach ev = row_foreach ev
+row builtin.If ev = row_if ev
 row builtin.Incr ev = row_incr
 row builtin.Lassign ev = row_lassign
+row builtin.Lmap ev = row_lmap ev
 row builtin.Puts ev = row_puts
 row builtin.Set ev = row_set
+row builtin.Switch ev = row_switch ev
+row builtin.While ev = row_while ev

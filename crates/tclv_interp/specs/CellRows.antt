@@ -1,6 +1,7 @@
 -- The rows of data commands that are handed a variable: what the answer of such a row does.
-use Rattle.std.specs.Prelude.{◌≡◌, ℕ, ◌++◌, if◌then◌else◌, List, [], ◌∷◌, Option, None, Some, Result, Ok, Err, OnOk, OnErr, IfErr}
+use Rattle.std.specs.Prelude.{◌≡◌, ℕ, ◌++◌, if◌then◌else◌, Bool, List, [], ◌∷◌, Option, None, Some, Result, Ok, Err, OnOk, OnErr, IfErr}
 use Rattle.std.specs.Option.{option_map_or}
+use Rattle.std.specs.Str.{bytes_eq}
 use Rattle.std.specs.Ordering.{nat_cmp}
 use Rattle.std.specs.FinMap.{FinMap, get}
 use Rattle.tclv_vars.specs.declared.places.Place.TheVariants as place
@@ -8,10 +9,11 @@ use Rattle.tclv_vars.specs.declared.faults.VarFault.{VarFault}
 use Rattle.tclv_vars.specs.declared.faults.VarFault.TheVariants as fault
 use Rattle.tclv_vars.specs.Table.{Table, Spot, write}
 use Rattle.tclv_model.specs.declared.data_commands.CmdFault.{CmdFault}
-use Rattle.tclv_model.specs.declared.data_commands.CmdFault.TheVariants.{WrongArgs}
 use Rattle.tclv_model.specs.declared.data_commands.VarState.{VarState}
 use Rattle.tclv_model.specs.declared.data_commands.VarState.TheVariants as var
-use Rattle.tclv_model.specs.Rows.{Answer, Gives, Refuses, VarAnswer, Variable, Holds, Unset, WholeArray, PlainElement}
+use Rattle.tclv_model.specs.declared.messages.MessageId.TheVariants.{CannotReadArray}
+use Rattle.tclv_model.specs.Message.{text_of}
+use Rattle.tclv_model.specs.Rows.{Gives, Refuses, VarAnswer, Variable, Holds, Unset, WholeArray, PlainElement}
 use Rattle.tclv_value.specs.Stacks.{under}
 use Rattle.tclv_lists.specs.Replies as replies
 use Rattle.tclv_lists.specs.Variables.{row_lappend, row_lpop, row_lset}
@@ -43,14 +45,18 @@ named (name ∷ args) = name
 abbrev pub keep : Text → Text × Text → State → Res Outcome
 keep name given st = bind (assign name given.1 st) (λ kept s1. ok given.0 s1)
 
--- Of the words behind a name that isn't built yet only the number is looked at.
-abbrev pub unbuilt : VarAnswer → State → Res Outcome
-unbuilt (Refuses WrongArgs message errorcode) st = error message errorcode st
-unbuilt answer st = not_built st
+-- The row of a whole array refuses with this message where it comes to the variable. What it refuses before that has another one.
+abbrev pub is_of_array : Text → Text → Bool
+is_of_array name message = bytes_eq message (text_of CannotReadArray name [])
+
+-- A name that isn't built yet is refused where the row comes to the variable. What the row refuses before that comes first.
+abbrev pub unbuilt : Text → VarAnswer → State → Res Outcome
+unbuilt name (Refuses kind message errorcode) st = if is_of_array name message then not_built st else error message errorcode st
+unbuilt name (Gives kept) st = not_built st
 
 abbrev pub on_variable : Text → (Variable → VarAnswer) → State → Res Outcome
 on_variable name row st =
-    if is_unbuilt (bytes_of name) then unbuilt (row WholeArray) st else bind (of_answer (row (variable_seen (bytes_of name) st.vars st.texts)) st) (keep name)
+    if is_unbuilt (bytes_of name) then unbuilt name (row WholeArray) st else bind (of_answer (row (variable_seen (bytes_of name) st.vars st.texts)) st) (keep name)
 
 -- What a data command does whose row this is. Where the row refuses, the variable stays as it was.
 abbrev pub cell_row : (Text → List Text → Variable → VarAnswer) → List Text → State → Res Outcome

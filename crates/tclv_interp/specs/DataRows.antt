@@ -1,5 +1,5 @@
 -- The rows of data commands, which touch only values: what the answer of such a row does.
-use Rattle.std.specs.Prelude.{◌≡◌, ◌≤◌, ◌-◌, List, drop, length, take, Result, Ok, Err}
+use Rattle.std.specs.Prelude.{◌≡◌, ◌≤◌, List, drop, length, Result, Ok, Err}
 use Rattle.tclv_model.specs.declared.data_commands.CmdFault.{CmdFault}
 use Rattle.tclv_model.specs.declared.data_commands.CmdFault.TheVariants as fault
 use Rattle.tclv_model.specs.Rows.{Answer, Gives, Refuses, RowAnswer}

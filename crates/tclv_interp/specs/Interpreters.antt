@@ -1,5 +1,5 @@
 -- What contracts see of an interpreter, and what its evaluation of a script answers.
-use Rattle.std.specs.Prelude.{◌≡◌, ℕ, ◌+◌, ◌<◌, ◌≤◌, Bool, true, false, List, [], ◌∷◌, ◌++◌, length, slice_index_or, if◌then◌else◌, Option, Some, Result, Ok, Err}
+use Rattle.std.specs.Prelude.{◌≡◌, ℕ, ◌+◌, ◌<◌, ◌≤◌, Bool, true, false, List, [], ◌++◌, length, slice_index_or, if◌then◌else◌, Some, Result, Ok, Err}
 use Rattle.std.specs.FinMap.{empty}
 use Rattle.tclv_io.specs.World.{World}
 use Rattle.tclv_io.specs.Causes.{Rose}
@@ -7,9 +7,8 @@ use Rattle.tclv_io.specs.Events.{Event, after_all, partly, next_length}
 use Rattle.tclv_model.specs.declared.outcomes.Code.{Code}
 use Rattle.tclv_model.specs.declared.outcomes.Code.TheVariants as code
 use Rattle.tclv_model.specs.declared.outcomes.Pair.{Pair}
-use Rattle.tclv_value.specs.View.{HasPlace, text_at}
+use Rattle.tclv_value.specs.View.{text_at}
 use Rattle.tclv_value.specs.declared.places.At.{At}
-use Rattle.tclv_value.specs.declared.places.At.TheVariants.{Stack}
 use Rattle.tclv_vars.specs.Table.{no_variables}
 use Rattle.tclv_interp.specs.declared.interpreters.Interp.{Interp}
 use Rattle.tclv_interp.specs.declared.interpreters.Stop.{Stop}

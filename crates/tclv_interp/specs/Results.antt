@@ -8,7 +8,7 @@ use Rattle.tclv_model.specs.declared.outcomes.Pair.{Pair}
 use Rattle.tclv_model.specs.declared.messages.MessageId.{MessageId}
 use Rattle.tclv_model.specs.Message.{text_of}
 use Rattle.tclv_interp.specs.declared.endings.ErrorCode.{ErrorCode}
-use Rattle.tclv_interp.specs.declared.endings.ErrorCode.TheVariants.{NoCode, WrongArguments, UnknownCommand, UnknownVariable, NotNumber, Overflow}
+use Rattle.tclv_interp.specs.declared.endings.ErrorCode.TheVariants.{NoCode, WrongArguments, UnknownCommand, UnknownVariable, NotNumber, Overflow, DivideByZero, ZeroToNegativePower}
 use Rattle.tclv_interp.specs.State.{Text, State}
 
 -- A computation ends with a value; with a code that isn't ok, its result and its options; or with a stop, which no command catches:
@@ -87,6 +87,8 @@ code_words UnknownCommand name = codes "TCL" ∷ codes "LOOKUP" ∷ codes "COMMA
 code_words UnknownVariable name = codes "TCL" ∷ codes "LOOKUP" ∷ codes "VARNAME" ∷ name ∷ []
 code_words NotNumber name = codes "TCL" ∷ codes "VALUE" ∷ codes "NUMBER" ∷ []
 code_words Overflow name = codes "ARITH" ∷ codes "IOVERFLOW" ∷ codes "integer value too large to represent" ∷ []
+code_words DivideByZero name = codes "ARITH" ∷ codes "DIVZERO" ∷ codes "divide by zero" ∷ []
+code_words ZeroToNegativePower name = codes "ARITH" ∷ codes "DOMAIN" ∷ codes "exponentiation of zero by negative power" ∷ []
 
 -- An error code is the canonical text of its words.
 abbrev pub error_code : ErrorCode → Text → Text

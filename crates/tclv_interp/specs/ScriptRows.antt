@@ -1,5 +1,5 @@
 -- The row of `eval`.
-use Rattle.std.specs.Prelude.{List, [], ◌∷◌, codes}
+use Rattle.std.specs.Prelude.{List, ◌∷◌, codes}
 use Rattle.tclv_parse.specs.Grammar.{commands}
 use Rattle.tclv_lists.specs.Joining.{concatenated}
 use Rattle.tclv_interp.specs.State.{Text, State}

@@ -1,4 +1,4 @@
--- Units, of which each command takes one.
+-- Units: each command takes one, and so does each turn of a loop.
 use Rattle.std.specs.Prelude.{◌-◌, ◌==◌, if◌then◌else◌}
 use Rattle.tclv_interp.specs.State.{State}
 use Rattle.tclv_interp.specs.Results.{Res, Budget, ends, done}

@@ -26,10 +26,17 @@ pub enum Builtin {
     Data(DataCommand),
     Eval,
     Exit,
+    Expr,
+    For,
+    Foreach,
+    If,
     Incr,
     Lassign,
+    Lmap,
     Puts,
     Set,
+    Switch,
+    While,
 }
 
 /// The command of a name.
@@ -44,6 +51,10 @@ pub fn builtin_of(name: &[u8]) -> Option<Builtin>
         "continue" => Some(Builtin::Continue),
         "eval" => Some(Builtin::Eval),
         "exit" => Some(Builtin::Exit),
+        "expr" => Some(Builtin::Expr),
+        "for" => Some(Builtin::For),
+        "foreach" => Some(Builtin::Foreach),
+        "if" => Some(Builtin::If),
         "incr" => Some(Builtin::Incr),
         "join" => Some(Builtin::Data(DataCommand::Join)),
         "lappend" => Some(Builtin::Cell(CellCommand::Lappend)),
@@ -52,6 +63,7 @@ pub fn builtin_of(name: &[u8]) -> Option<Builtin>
         "linsert" => Some(Builtin::Data(DataCommand::Linsert)),
         "list" => Some(Builtin::Data(DataCommand::List)),
         "llength" => Some(Builtin::Data(DataCommand::Llength)),
+        "lmap" => Some(Builtin::Lmap),
         "lpop" => Some(Builtin::Cell(CellCommand::Lpop)),
         "lrange" => Some(Builtin::Data(DataCommand::Lrange)),
         "lremove" => Some(Builtin::Data(DataCommand::Lremove)),
@@ -65,6 +77,8 @@ pub fn builtin_of(name: &[u8]) -> Option<Builtin>
         "puts" => Some(Builtin::Puts),
         "set" => Some(Builtin::Set),
         "split" => Some(Builtin::Data(DataCommand::Split)),
+        "switch" => Some(Builtin::Switch),
+        "while" => Some(Builtin::While),
         _ => None,
     }
 }

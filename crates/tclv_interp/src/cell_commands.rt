@@ -1,17 +1,23 @@
 // Data commands that are handed a variable.
-ghost use Rattle.std.specs.Prelude.{◌≡◌, ◌+◌, ◌-◌, ◌<◌, ◌≤◌, [], length, slice_index_or};
+ghost use Rattle.std.specs.Prelude.{◌≡◌, ◌+◌, ◌-◌, ◌<◌, ◌≤◌, [], length, slice_index_or, IfOk};
+ghost use Rattle.std.specs.Str.{chars, bytes_eq};
+ghost use Rattle.tclv_text.specs.Texts.{IsText};
 ghost use Rattle.tclv_value.specs.View.{HasPlace, IsMade, text_at};
 ghost use Rattle.tclv_value.specs.Stacks.{top, under};
 ghost use Rattle.tclv_model.specs.Rows.{WholeArray};
 ghost use Rattle.tclv_lists.specs.Replies as replies;
 ghost use Rattle.tclv_interp.specs.CellRows as spec;
-ghost use Rattle.tclv_interp.specs.Answers.{Answers, IsCalm, PushesResult, as_result};
+ghost use Rattle.tclv_interp.specs.Operations.{second_of};
+ghost use Rattle.tclv_interp.specs.Answers.{Answers, IsCalm, PushesResult, SameState, as_result};
 
+use crate::channels::is_word;
 use crate::endings::End;
 use crate::machine::Machine;
+use crate::messages::message_text;
 use crate::names::is_unbuilt;
 use tclv_lists::{cmd_lappend, cmd_lpop, cmd_lset};
-use tclv_model::{CmdFault, VarState};
+use tclv_model::{CmdFault, MessageId, VarState};
+use tclv_text::NoMemory;
 use tclv_value::{At, Store};
 use tclv_vars::VarFault;
 
@@ -67,20 +73,41 @@ impl Machine {
         self.end_data(done)
     }
 
-    // The command on a variable whose name isn't built yet.
+    // Whether this is the message of a refusal, which is the text below the top.
+    fn is_message(&mut self, message: &[u8]) -> Result<bool, NoMemory>
+        requires reply { 2 ≤ length self.old.values.store.stack }
+        requires message { IsText message.now }
+        ensures answer { IfOk result (λ is. is ≡ bytes_eq (second_of self.old.values.store.stack) (chars message.now)) }
+        ensures same { SameState self.old self.new }
+        ensures stack { self.new.values.store.stack ≡ self.old.values.store.stack }
+    {
+        let at = At::Stack(self.values.height() - 2);
+        self.values.make_text(at)?;
+        Ok(is_word(self.values.lend(at), message))
+    }
+
+    // The command on a variable whose name, the first of the words, is made but isn't built yet.
     fn cell_unbuilt(&mut self, command: CellCommand, n: usize) -> Result<(), End>
         requires words { n ≤ length self.old.values.store.stack }
         requires some { 1 < n }
-        ensures answer { Answers (spec.unbuilt (spec.row_of command (replies.call_word (n - 1) self.old.values.store.stack) (top (n - 1) self.old.values.store.stack) WholeArray)) as_result self.old result self.new }
+        requires made { IsMade self.old.values.store (At.Stack (length self.old.values.store.stack - (n - 1))) }
+        ensures answer { Answers (spec.unbuilt (slice_index_or self.old.values.store.stack (length self.old.values.store.stack - (n - 1)) []) (spec.row_of command (replies.call_word (n - 1) self.old.values.store.stack) (top (n - 1) self.old.values.store.stack) WholeArray)) as_result self.old result self.new }
         ensures stack { PushesResult (under n self.old.values.store.stack) result self.new.values.store.stack }
         ensures calm { IsCalm result }
         ensures units { self.new.units ≤ self.old.units }
     {
+        let name = self.values.lend(At::Stack(self.values.height() - (n - 1)));
+        let array = message_text(self.alloc, MessageId::CannotReadArray, name, b"")?;
         match self.values.change_array(command, n - 1) {
-            Err(CmdFault::NoMemory) => Err(End::Memory),
-            Err(CmdFault::WrongArgs) => Err(self.refuse()),
-            Err(CmdFault::Message) => Err(self.not_built()),
             Ok(()) => Err(self.not_built()),
+            Err(CmdFault::NoMemory) => Err(End::Memory),
+            Err(CmdFault::WrongArgs | CmdFault::Message) => {
+                if self.is_message(array.bytes())? {
+                    Err(self.not_built())
+                } else {
+                    Err(self.refuse())
+                }
+            }
         }
     }
 

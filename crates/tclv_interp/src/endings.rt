@@ -17,6 +17,10 @@ pub enum ErrorCode {
     NotNumber,
     /// `ARITH IOVERFLOW {integer value too large to represent}`.
     Overflow,
+    /// `ARITH DIVZERO {divide by zero}`.
+    DivideByZero,
+    /// `ARITH DOMAIN {exponentiation of zero by negative power}`.
+    ZeroToNegativePower,
 }
 
 /// A code that isn't ok, with all that belongs to it but the result, which is the top text of the

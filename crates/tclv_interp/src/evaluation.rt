@@ -119,10 +119,17 @@ impl Machine {
             Builtin::Data(command) => self.cmd_data(command, n),
             Builtin::Eval => self.cmd_eval(out, n),
             Builtin::Exit => self.cmd_exit(n),
+            Builtin::Expr => self.cmd_expr(out, n),
+            Builtin::For => self.cmd_for(out, n),
+            Builtin::Foreach => self.cmd_foreach(out, n),
+            Builtin::If => self.cmd_if(out, n),
             Builtin::Incr => self.cmd_incr(n),
             Builtin::Lassign => self.cmd_lassign(n),
+            Builtin::Lmap => self.cmd_lmap(out, n),
             Builtin::Puts => self.cmd_puts(n, out),
             Builtin::Set => self.cmd_set(n),
+            Builtin::Switch => self.cmd_switch(out, n),
+            Builtin::While => self.cmd_while(out, n),
         }
     }
 
@@ -157,7 +164,7 @@ impl Machine {
 
     /// Pushes the text of a word: its parts, joined.
     #[cycle(eval)]
-    fn substitute<O: Outside>(
+    pub fn substitute<O: Outside>(
         &mut self,
         out: &mut O,
         parts: &Items<Part>,

@@ -61,8 +61,9 @@ impl Machine {
         }
     }
 
-    // Sets the variable whose name is this place of the stack to the value of a number.
-    fn assign_value(&mut self, name: usize, values: &[Text], i: usize) -> Result<(), End>
+    /// Sets the variable whose name is this place of the stack to the value of a number, and to the
+    /// empty text where there are not so many.
+    pub fn assign_value(&mut self, name: usize, values: &[Text], i: usize) -> Result<(), End>
         requires { name < length self.old.values.store.stack }
         ensures answer { Answers (assign (text_at self.old.values.store (At.Stack name)) (slice_index_or values.now i [])) spec.unseen self.old result self.new }
         ensures stack { KeepsStack self.old.values.store.stack result self.new.values.store.stack }

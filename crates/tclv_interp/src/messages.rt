@@ -62,5 +62,12 @@ pub fn code_text(alloc: Global, errorcode: ErrorCode, name: &[u8]) -> Result<Tex
                 "ARITH IOVERFLOW {integer value too large to represent}",
             )
         }
+        ErrorCode::DivideByZero => fixed_code(alloc, "ARITH DIVZERO {divide by zero}"),
+        ErrorCode::ZeroToNegativePower => {
+            fixed_code(
+                alloc,
+                "ARITH DOMAIN {exponentiation of zero by negative power}",
+            )
+        }
     }
 }

@@ -15,8 +15,8 @@ use tclv_model::MessageId;
 use tclv_text::{NoMemory, Text};
 use tclv_value::At;
 
-// The text and the code of an error.
-fn error_texts(
+/// The text and the code of an error.
+pub fn error_texts(
     alloc: Global,
     kind: MessageId,
     first: &[u8],
@@ -34,8 +34,8 @@ fn error_texts(
 }
 
 impl Machine {
-    // Pushes the text of an error.
-    fn throw(&mut self, texts: Result<(Text, Text), NoMemory>) -> End
+    /// Pushes the text of an error.
+    pub fn throw(&mut self, texts: Result<(Text, Text), NoMemory>) -> End
         ensures raises { MatchResult texts (λ t. Raises t.0 t.1 self.new.values.store.stack result) (λ _. result ≡ End.Memory) }
         ensures same { SameState self.old self.new }
         ensures stack { KeepsStack {T = Unit {0}} self.old.values.store.stack (Err result) self.new.values.store.stack }

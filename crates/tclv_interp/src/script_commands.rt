@@ -31,8 +31,8 @@ impl Machine {
         self.script(out, &tree)
     }
 
-    // Puts the text that `concat` makes of the top n texts in their place, over the word of the call.
-    fn concat(&mut self, n: usize) -> Result<(), NoMemory>
+    /// Puts the text that `concat` makes of the top n texts in their place, over the word of the call.
+    pub fn concat(&mut self, n: usize) -> Result<(), NoMemory>
         requires { n + 1 ≤ length self.old.values.store.stack }
         ensures joined { OnOk result (self.new.values.store.stack ≡ under n self.old.values.store.stack ++ concatenated (top n self.old.values.store.stack) ∷ []) }
         ensures same { SameState self.old self.new }
@@ -40,8 +40,8 @@ impl Machine {
         self.values.concat(n)
     }
 
-    // The error of words that fit no form of `eval`, by the place of the word of the call.
-    fn eval_usage(&mut self, word: At) -> End
+    /// The error of words that fit no form of `eval` or `expr`, by the place of the word of the call.
+    pub fn eval_usage(&mut self, word: At) -> End
         requires { HasPlace self.old.values.store word }
         ensures raises { Raises (text_of MessageId.WrongArguments (text_at self.old.values.store word) rows.eval_usage) (error_code ErrorCode.WrongArguments (text_at self.old.values.store word)) self.new.values.store.stack result }
         ensures same { SameState self.old self.new }

@@ -1,4 +1,4 @@
-// Units, of which each command takes one.
+// Units: each command takes one, and so does each turn of a loop.
 ghost use Rattle.std.specs.Prelude.{◌≡◌, ◌+◌, ◌≤◌, OnOk};
 ghost use Rattle.tclv_interp.specs.Answers.{Answers, KeepsStack, IsCalm, returned};
 ghost use Rattle.tclv_interp.specs.Units as spec;

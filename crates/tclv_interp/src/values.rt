@@ -1,20 +1,27 @@
 // The values of a run: a stack of texts, and variables.
-ghost use Rattle.std.specs.Prelude.{◌≡◌, ◌+◌, ◌-◌, ◌<◌, ◌≤◌, ◌++◌, [], ◌∷◌, length, take, Ok, Err, IfOk, IfErr, OnOk, OnErr, slice_set, None, Some, slice_index_or};
+ghost use Rattle.std.specs.Prelude.{◌≡◌, ◌+◌, ◌-◌, ◌<◌, ◌≤◌, ◌++◌, [], ◌∷◌, length, take, Ok, Err, IfOk, IfErr, IfSome, OnOk, OnErr, slice_set, None, Some, slice_index_or};
 ghost use Rattle.std.specs.Str.{chars};
 ghost use Rattle.std.specs.FinMap as finite;
+ghost use Rattle.std.specs.List.{All};
+ghost use Rattle.std.specs.Option.{option_map};
 ghost use Rattle.tclv_text.specs.Texts.{IsText};
 ghost use Rattle.tclv_text.specs.Numbers.{whole, whole_text};
 ghost use Rattle.tclv_parse.specs.Grammar.{commands};
+ghost use Rattle.tclv_exprp.specs.ExpressionGrammar as grammar;
+ghost use Rattle.tclv_exprp.specs.ExpressionGrammar.{expression};
 ghost use Rattle.tclv_vars.specs.Table.{no_variables, read, write, Refuses};
 ghost use Rattle.tclv_value.specs.View.{HasPlace, text_at, IsMade};
 ghost use Rattle.tclv_value.specs.Stacks.{top, under};
 ghost use Rattle.tclv_lists.specs.Joining.{concatenated};
+ghost use Rattle.tclv_ctl.specs.Switching as control;
 
 use crate::cell_commands::{CellCommand, run_cell, unsettable};
 use crate::data_commands::{DataCommand, run_data};
 use std::alloc::Global;
 use std::marker::Model;
 use std::rc::Rc;
+use tclv_ctl::{SwitchPlan, chosen_body, switch_clauses};
+use tclv_exprp::{ExprFault, ExprTree};
 use tclv_lists::{Elements, cmd_concat, list_elements};
 use tclv_model::{CmdFault, VarState};
 use tclv_parse::Script;
@@ -203,6 +210,18 @@ impl Values {
             return Err(NoMemory);
         };
         Ok(())
+    }
+
+    /// The tree of the expression that the text of a place is. No text changes. Refuses as
+    /// `tclv_value::Store::expr` does.
+    pub fn expr(&mut self, at: At) -> Result<Rc<ExprTree>, ExprFault>
+        requires { HasPlace self.old.store at }
+        ensures tree { IfOk result (λ tree. expression (text_at self.old.store at) ≡ Ok tree.value) }
+        ensures refused { IfErr result (λ fault. grammar.Answers (expression (text_at self.old.store at)) (Err fault)) }
+        ensures stack { self.new.store.stack ≡ self.old.store.stack }
+        ensures same { SameVariables self.old self.new }
+    {
+        self.store.expr(at)
     }
 
     /// The cell of the variable of this name, which has a text. Refuses as `tclv_vars::Vars::read`
@@ -406,6 +425,29 @@ impl Values {
                 None => Err(CmdFault::NoMemory),
             },
         }
+    }
+
+    /// What the words of `switch` ask for that are the top `n` texts of the stack, above the word of
+    /// the call. Refuses as `tclv_ctl::switch_clauses` does: the message and the error code then
+    /// stand in their place.
+    pub fn switch_plan(&mut self, n: usize) -> Result<SwitchPlan, CmdFault>
+        requires { n + 1 ≤ length self.old.store.stack }
+        ensures plan { control.Plans (control.row_switch (replies.call_word n self.old.store.stack) (top n self.old.store.stack)) n self.old.store self.new.store result }
+        ensures same { SameVariables self.old self.new }
+    {
+        switch_clauses(&mut self.store, n)
+    }
+
+    /// The place of the body that a plan of `switch` chooses, if it chooses one. No text changes.
+    pub fn chosen_body(&mut self, plan: &SwitchPlan) -> Result<Option<usize>, NoMemory>
+        requires string { plan.now.string < length self.old.store.stack }
+        requires clauses { All (control.IsInside self.old.store.stack) plan.now.clauses.items }
+        ensures chosen { IfOk result (λ found. option_map (λ body. slice_index_or self.old.store.stack body []) found ≡ control.chosen_by plan.now self.old.store.stack) }
+        ensures inside { IfOk result (λ found. IfSome found (λ body. body < length self.old.store.stack)) }
+        ensures stack { self.new.store.stack ≡ self.old.store.stack }
+        ensures same { SameVariables self.old self.new }
+    {
+        chosen_body(&mut self.store, plan)
     }
 
     /// How much work was done.

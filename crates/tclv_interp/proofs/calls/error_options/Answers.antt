@@ -1,7 +1,7 @@
-use Rattle.std.proofs.Common.{rules, ◌≡◌, ◌≢◌, ◌↔◌, ◌<◌, [], ℕ, false, true, length, slice_index_or, IfOk, IfErr, OnOk, OnErr, Ok, Err, Some, ◌+◌, ◌-◌, ◌≤◌, List, ◌∷◌, ◌++◌, sym, ap, ◌∙◌, refl, subst, arith}
+use Rattle.std.proofs.Common.{[], ◌∷◌, ◌++◌, ap, ◌∙◌}
 use Rattle.std.specs.Str.{chars}
 use Rattle.tclv_interp.proofs.calls.error_options.Goals as goal
-use Rattle.tclv_interp.specs.Results.{option, error_options}
+use Rattle.tclv_interp.specs.Results.{option}
 use Rattle.std.specs.Prelude.{codes}
 
 pub returns : goal.returns

@@ -1,7 +1,7 @@
 use Rattle.std.proofs.Common.{sym, ap, ◌∙◌}
 use Rattle.std.specs.Str.{chars}
 use Rattle.tclv_interp.specs.Results.{error_code}
-use Rattle.tclv_interp.proofs.CodeLemmas.{if_ok-as, no_code, wrong_arguments, unknown_command, unknown_variable, not_number, overflow}
+use Rattle.tclv_interp.proofs.CodeLemmas.{if_ok-as, no_code, wrong_arguments, unknown_command, unknown_variable, not_number, overflow, divide_by_zero, zero_to_negative_power}
 use Rattle.tclv_interp.proofs.messages.code_text.Goals as goal
 
 pub returns-in-NoCode : goal.returns-in-NoCode
@@ -21,3 +21,9 @@ returns-in-NotNumber c = if_ok-as c.fixed_code-in-NotNumber.result _ _ c.fixed_c
 
 pub returns-in-Overflow : goal.returns-in-Overflow
 returns-in-Overflow c = if_ok-as c.fixed_code-in-Overflow.result _ _ c.fixed_code-in-Overflow.ensures (overflow (chars c.args.name.now) ∙ ap (λ e. error_code e (chars c.args.name.now)) (sym c.in-Overflow.is))
+
+pub returns-in-DivideByZero : goal.returns-in-DivideByZero
+returns-in-DivideByZero c = if_ok-as c.fixed_code-in-DivideByZero.result _ _ c.fixed_code-in-DivideByZero.ensures (divide_by_zero (chars c.args.name.now) ∙ ap (λ e. error_code e (chars c.args.name.now)) (sym c.in-DivideByZero.is))
+
+pub returns-in-ZeroToNegativePower : goal.returns-in-ZeroToNegativePower
+returns-in-ZeroToNegativePower c = if_ok-as c.fixed_code-in-ZeroToNegativePower.result _ _ c.fixed_code-in-ZeroToNegativePower.ensures (zero_to_negative_power (chars c.args.name.now) ∙ ap (λ e. error_code e (chars c.args.name.now)) (sym c.in-ZeroToNegativePower.is))

@@ -1,5 +1,4 @@
-use Rattle.std.proofs.Common.{rules, ◌≡◌, ◌≢◌, ◌↔◌, ◌<◌, [], ℕ, false, true, length, slice_index_or, IfOk, IfErr, OnOk, OnErr, Ok, Err, Some, ◌+◌, ◌-◌, ◌≤◌, List, ◌∷◌, ◌++◌, sym, ap, ◌∙◌, refl, subst, arith}
-use Rattle.std.specs.Str.{chars}
+use Rattle.std.proofs.Common.{rules, ◌≡◌, Err, sym, subst}
 use Rattle.tclv_interp.proofs.interpreters.Interp.end.Goals as goal
 use Rattle.tclv_interp.specs.Interpreters.{Shows, result_of, options_at}
 use Rattle.tclv_interp.proofs.InterpreterLemmas.{shows-plain, shows-left}

@@ -1,5 +1,4 @@
-use Rattle.std.proofs.Common.{rules, ◌≡◌, ◌≢◌, ◌↔◌, ◌<◌, [], ℕ, false, true, length, slice_index_or, IfOk, IfErr, OnOk, OnErr, Ok, Err, Some, ◌+◌, ◌-◌, ◌≤◌, List, ◌∷◌, ◌++◌, sym, ap, ◌∙◌, refl, subst, arith}
-use Rattle.std.specs.Str.{chars}
+use Rattle.std.proofs.Common.{rules, ap, ◌∙◌, refl, arith}
 use Rattle.tclv_interp.proofs.interpreters.Interp.run.Goals as goal
 use Rattle.tclv_interp.specs.Evaluation.{evaluator}
 use Rattle.tclv_interp.specs.State.{state_of}

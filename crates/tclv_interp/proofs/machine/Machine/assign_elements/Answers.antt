@@ -1,4 +1,4 @@
-use Rattle.std.proofs.Common.{rules, ap, ◌∙◌, sym, drop, ◌+◌}
+use Rattle.std.proofs.Common.{rules, ap, ◌∙◌, drop, ◌+◌}
 use Rattle.tclv_interp.specs.State.{state_of}
 use Rattle.tclv_interp.specs.ListAssignment.{assign_list}
 use Rattle.tclv_interp.proofs.Binds.{runs_as, bind_ok, then_stop}

@@ -1,9 +1,9 @@
-use Rattle.std.proofs.Common.{rules, refl, arith, ap, ◌∙◌, sym, take, drop, length, length-drop, ◌+◌, ◌-◌, ◌≡◌}
+use Rattle.std.proofs.Common.{rules, refl, arith, ap, ◌∙◌, drop, length, length-drop, ◌+◌, ◌-◌, ◌≡◌}
 use Rattle.tclv_text.specs.Quotes.{list_text}
 use Rattle.tclv_interp.specs.State.{state_of}
-use Rattle.tclv_interp.specs.Results.{ok, plain}
+use Rattle.tclv_interp.specs.Results.{plain}
 use Rattle.tclv_interp.specs.ListAssignment.{assign_each}
-use Rattle.tclv_interp.proofs.Binds.{runs_as, bind_ok, bind_stop, answers_as, then_stop}
+use Rattle.tclv_interp.proofs.Binds.{runs_as, bind_ok, then_stop}
 use Rattle.tclv_interp.proofs.Leaves.{memory_runs, value_runs}
 use Rattle.tclv_interp.proofs.StackLemmas.{last-pushed}
 use Rattle.tclv_interp.proofs.ListLemmas.{all_from}

@@ -1,7 +1,6 @@
-use Rattle.std.proofs.Common.{rules, arith, ap, sym, ◌∙◌, ◌≡◌, ◌<◌, ◌≤◌, ◌-◌, ◌+◌, [], length, take, drop, get_or, refl}
+use Rattle.std.proofs.Common.{rules, arith, ap, sym, ◌∙◌, ◌<◌, ◌≤◌, ◌-◌, ◌+◌, [], length, take, drop, get_or, refl}
 use Rattle.std.proofs.lemmas.List.{drop_all}
 use Rattle.tclv_interp.specs.State.{state_of}
-use Rattle.tclv_interp.specs.ListAssignment.{assign_each}
 use Rattle.tclv_interp.proofs.Binds.{runs_as, bind_ok, then_stop}
 use Rattle.tclv_interp.proofs.Leaves.{done_runs}
 use Rattle.tclv_interp.proofs.ListLemmas.{assigns_begin, assign_step, assign_none, name_between, length_between}

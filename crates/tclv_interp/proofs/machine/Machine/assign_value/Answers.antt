@@ -1,4 +1,4 @@
-use Rattle.std.proofs.Common.{rules, refl, ap, ◌∙◌, [], get_or, Err}
+use Rattle.std.proofs.Common.{rules, ap, ◌∙◌, [], get_or, Err}
 use Rattle.tclv_interp.specs.State.{state_of}
 use Rattle.tclv_interp.specs.Variables.{assign}
 use Rattle.tclv_interp.specs.Answers.{last_of}

@@ -1,6 +1,5 @@
 use Rattle.std.proofs.Common.{rules, ap, ◌∙◌, sym, refl, length, ◌-◌, [], get_or}
 use Rattle.tclv_value.specs.Stacks.{top}
-use Rattle.tclv_model.specs.Rows.{WholeArray}
 use Rattle.tclv_lists.specs.Replies.{call_word}
 use Rattle.tclv_interp.specs.State.{state_of}
 use Rattle.tclv_interp.specs.Names.{bytes_of}

@@ -1,4 +1,4 @@
-use Rattle.std.proofs.Common.{◌∙◌, sym, ap, subst, ◌-◌, [], List, ℕ, length, None, refl}
+use Rattle.std.proofs.Common.{◌∙◌, sym, ap, subst, ◌-◌, [], length, None, refl}
 use Rattle.std.specs.Prelude.{slice_index_or}
 use Rattle.tclv_vars.specs.declared.places.Place.TheVariants as place
 use Rattle.tclv_vars.specs.Table.{read}

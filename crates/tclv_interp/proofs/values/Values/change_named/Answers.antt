@@ -1,5 +1,4 @@
-use Rattle.std.proofs.Common.{◌≡◌, ◌∙◌, sym, ap, subst, refl, Ok, Err, Result}
-use Rattle.tclv_model.specs.declared.data_commands.CmdFault.{CmdFault}
+use Rattle.std.proofs.Common.{◌≡◌, ◌∙◌, sym, ap, subst, refl, Ok, Err}
 use Rattle.tclv_value.specs.Stacks.{top}
 use Rattle.tclv_lists.specs.Replies as replies
 use Rattle.tclv_vars.specs.Table.{has_value}

@@ -1,10 +1,7 @@
-use Rattle.std.proofs.Common.{◌∙◌, sym, ap, subst, ◌-◌, [], List, ℕ, length}
+use Rattle.std.proofs.Common.{◌∙◌, ap, subst, ◌-◌, [], List, ℕ, length}
 use Rattle.std.specs.Prelude.{slice_index_or}
 use Rattle.tclv_value.specs.Stacks.{top}
-use Rattle.tclv_value.specs.View.{text_at}
-use Rattle.tclv_value.specs.declared.places.At.TheVariants.{Stack}
 use Rattle.tclv_lists.specs.Replies as replies
-use Rattle.tclv_interp.specs.Names.{bytes_of}
 use Rattle.tclv_interp.specs.CellRows as cells
 use Rattle.tclv_interp.proofs.NameLemmas.{bytes-are}
 use Rattle.tclv_interp.proofs.values.Values.change_unset.Goals as goal
