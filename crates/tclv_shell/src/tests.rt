@@ -71,9 +71,9 @@ fn is_prefix(report: Report, out: &MemoryOutside, writes: u64, output: &str, err
         && errors.as_bytes().starts_with(out.errors())
 }
 
-// Whether the run of words over a file comes to this, and to a prefix of it whichever of its calls
-// fails.
-fn answers(
+/// Whether the run of words over a file comes to this, and to a prefix of it whichever of its calls
+/// fails.
+pub fn answers(
     alloc: Global,
     words: &str,
     file: &[u8],
@@ -94,14 +94,14 @@ fn answers(
     Ok(false)
 }
 
-// Whether a script runs to its end, and writes these lines, each at once.
-fn prints(alloc: Global, script: &str, output: &str) -> Result<bool, NoMemory> {
+/// Whether a script runs to its end, and writes these lines, each at once.
+pub fn prints(alloc: Global, script: &str, output: &str) -> Result<bool, NoMemory> {
     let writes = output.lines().count() as u64;
     answers(alloc, "F", script.as_bytes(), 0, writes, output, "")
 }
 
-// Whether a script writes this at once or nothing, and then ends with the error of a message.
-fn fails(alloc: Global, script: &str, output: &str, message: &str) -> Result<bool, NoMemory> {
+/// Whether a script writes this at once or nothing, and then ends with the error of a message.
+pub fn fails(alloc: Global, script: &str, output: &str, message: &str) -> Result<bool, NoMemory> {
     let writes = if output.is_empty() { 1 } else { 2 };
     let mut errors = String::from_str(alloc, message)?;
     errors.push_str("\n")?;
@@ -308,6 +308,27 @@ fn words_of_lists(rt: HostRuntime) -> Result<(), Fail> {
     Ok(())
 }
 
+// What is wrong with an index is said before the variable is looked at, even where its name isn't
+// built.
+#[test]
+fn checks_before_variables(rt: HostRuntime) -> Result<(), Fail> {
+    let alloc = rt.alloc();
+    let bad_index = "bad index \"x\": must be integer?[+-]integer? or end?[+-]integer?";
+    for (script, message) in [
+        ("lset nothing x 2", bad_index),
+        ("lset a(1) x 2", bad_index),
+        ("lset a(1) 0 2", "not built yet"),
+        ("lpop a(1) x", bad_index),
+        (
+            "lpop a(1) 1 2",
+            "wrong # args: should be \"lpop varName ?index?\"",
+        ),
+    ] {
+        assert!(rt; fails(alloc, script, "", message)?, "{script}");
+    }
+    Ok(())
+}
+
 // Brackets inside 100 others.
 #[test]
 fn too_deep(rt: HostRuntime) -> Result<(), Fail> {
@@ -341,6 +362,14 @@ fn has_option(options: &Options, key: &str, value: &str) -> bool {
         [.., pair] => pair.key.bytes() == key.as_bytes() && pair.value.bytes() == value.as_bytes(),
         [] => false,
     }
+}
+
+/// Whether an interpreter ends a script with an error of this code.
+pub fn has_error_code(alloc: Global, script: &str, code: &str) -> Result<bool, NoMemory> {
+    let mut out = outside(alloc, b"", 0)?;
+    let mut interp = Interp::new(alloc, 9)?;
+    let ended = evaluated(&mut interp, script, &mut out);
+    Ok(ended == Ok(Code::Error) && has_option(interp.options(), "-errorcode", code))
 }
 
 #[test]
