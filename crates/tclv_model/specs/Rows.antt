@@ -1,9 +1,11 @@
 -- What the row of a data command says: the answer for the texts of its words.
-use Rattle.std.specs.Prelude.{ℕ, List, codes}
+use Rattle.std.specs.Prelude.{ℕ, List, []}
 use Rattle.tclv_model.specs.declared.data_commands.CmdFault.{CmdFault}
 use Rattle.tclv_model.specs.declared.data_commands.CmdFault.TheVariants.{WrongArgs, Message}
+use Rattle.tclv_model.specs.declared.error_codes.ErrorCode.TheVariants as code
 use Rattle.tclv_model.specs.declared.messages.MessageId.{MessageId}
 use Rattle.tclv_model.specs.declared.messages.MessageId.TheVariants.{WrongArguments}
+use Rattle.tclv_model.specs.ErrorCodes.{error_code}
 use Rattle.tclv_model.specs.Message.{text_of}
 
 -- What a step of a row gives, or its refusal: the kind, the message and the error code, which is a list.
@@ -35,8 +37,8 @@ and_then (Refuses fault message code) rest = Refuses fault message code
 
 -- the refusal with a message and the code NONE
 abbrev pub says : {A : Type 0} → MessageId → List ℕ → List ℕ → Answer A
-says kind first second = Refuses Message (text_of kind first second) (codes "NONE")
+says kind first second = Refuses Message (text_of kind first second) (error_code code.NoCode [])
 
 -- the words are none that the command takes: the usage begins with the word of the call
 abbrev pub wrong_count : {A : Type 0} → List ℕ → List ℕ → Answer A
-wrong_count call usage = Refuses WrongArgs (text_of WrongArguments call usage) (codes "TCL WRONGARGS")
+wrong_count call usage = Refuses WrongArgs (text_of WrongArguments call usage) (error_code code.WrongArguments [])

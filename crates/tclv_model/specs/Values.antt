@@ -1,5 +1,5 @@
 -- Values that a row reads from words: lists, places and whole numbers, each with its refusal.
-use Rattle.std.specs.Prelude.{ℕ, not, List, [], take, take_while, Result, Ok, Err, ℤ, pos, negsuc, codes}
+use Rattle.std.specs.Prelude.{ℕ, not, List, [], take, take_while, Result, Ok, Err, ℤ, pos, negsuc}
 use Rattle.tclv_text.specs.declared.indices.IndexFault.{IndexFault}
 use Rattle.tclv_text.specs.declared.numbers.WholeFault.{WholeFault}
 use Rattle.tclv_text.specs.declared.numbers.WholeFault.TheVariants.{NotWhole, TooLarge, FloatForm}
@@ -9,7 +9,9 @@ use Rattle.tclv_text.specs.Elements.{elements}
 use Rattle.tclv_text.specs.Indices.{index}
 use Rattle.tclv_text.specs.Numbers.{whole}
 use Rattle.tclv_model.specs.declared.data_commands.CmdFault.TheVariants.{Message}
+use Rattle.tclv_model.specs.declared.error_codes.ErrorCode.TheVariants.{NotNumber, Overflow}
 use Rattle.tclv_model.specs.declared.messages.MessageId.TheVariants.{UnmatchedOpenBrace, UnmatchedOpenQuote, NoSpaceAfterBraces, NoSpaceAfterQuotes, BadIndex, NotInteger, IntegerTooLarge}
+use Rattle.tclv_model.specs.ErrorCodes.{error_code}
 use Rattle.tclv_model.specs.Message.{text_of}
 use Rattle.tclv_model.specs.Rows.{Answer, Gives, Refuses, says}
 
@@ -46,10 +48,10 @@ raised (negsuc k) = 0
 
 -- the refusal of a text that is no whole number, and of one that is too large a number
 abbrev pub no_whole : {A : Type 0} → List ℕ → Answer A
-no_whole t = Refuses Message (text_of NotInteger t []) (codes "TCL VALUE NUMBER")
+no_whole t = Refuses Message (text_of NotInteger t []) (error_code NotNumber [])
 
 abbrev pub too_large : {A : Type 0} → Answer A
-too_large = Refuses Message (text_of IntegerTooLarge [] []) (codes "ARITH IOVERFLOW {integer value too large to represent}")
+too_large = Refuses Message (text_of IntegerTooLarge [] []) (error_code Overflow [])
 
 -- the whole number that a text is
 abbrev pub whole_read : List ℕ → Result ℤ WholeFault → Answer ℤ

@@ -4,11 +4,9 @@ use Rattle.std.proofs.Math.Seq.{get_or-append_seam}
 use Rattle.std.proofs.lemmas.List.{get_or_append_left, length-append}
 use Rattle.std.proofs.lemmas.Bool.{cases_lt, cases_Bool, true≢false}
 use Rattle.std.specs.Option.{option_or}
-use Rattle.std.specs.Result.{result_ok}
 use mathlib.Core.Logic.{⊎_elim, inl, inr}
-use Rattle.tclv_text.specs.Numbers.{whole}
-use Rattle.tclv_text.specs.Indices.{base, moved, cut, place, IsPlace, is_sign, is_lead}
-use Rattle.tclv_text.proofs.IndexLemmas.{HasBody, base_body, sign_behind, cut_some, no_sign_none}
+use Rattle.tclv_text.specs.Indices.{base, before, behind, moved, cut, place, IsPlace, is_sign, is_lead}
+use Rattle.tclv_text.proofs.IndexLemmas.{HasBody, base_body, before_body, sign_behind, cut_some, no_sign_none}
 
 -- no text is a place both ways
 never_both : (u v : List ℕ) (c : ℕ) → HasBody u → HasBody (u ++ c ∷ v) → is_sign c ≡ true → ⊥
@@ -25,11 +23,11 @@ moved_parts (Some a) None c z e = absurd (cc)
 moved_parts (Some a) (Some b) c z e =
     ((a, refl), ⊎_elim (λ (t : is_sign c ≡ true). t) (λ (f : is_sign c ≡ false). let q : None ≡ Some z = sym (no_sign_none a b c f) ∙ e in absurd (cc)) (cases_Bool (is_sign c)))
 
-moved_read : (len : ℕ) (u v : List ℕ) (c : ℕ) (z : ℤ) → moved (base len u) c (result_ok (whole v)) ≡ Some z → place (u ++ c ∷ v) len ≡ Some z
+moved_read : (len : ℕ) (u v : List ℕ) (c : ℕ) (z : ℤ) → moved (before len u) c (behind v) ≡ Some z → place (u ++ c ∷ v) len ≡ Some z
 unfolding place
 moved_read len u v c z e =
-    let parts = moved_parts (base len u) (result_ok (whole v)) c z e in
-    let body = base_body len u parts.0.0 parts.0.1 in
+    let parts = moved_parts (before len u) (behind v) c z e in
+    let body = before_body len u parts.0.0 parts.0.1 in
     let none = no_base len (u ++ c ∷ v) (λ a h. never_both u v c body (base_body len (u ++ c ∷ v) a h) parts.1) in
     ap (λ o. option_or o (cut len [] (u ++ c ∷ v))) none ∙ cut_some len [] u v c (sign_behind u v c body parts.1 ∙ omega arith) ∙ e
   where
@@ -45,18 +43,18 @@ unfolding place
 place_is_read t len z h =
     ⊎_elim
     (λ (e : base len t ≡ Some z). ap (λ o. option_or o (cut len [] t)) e)
-    (λ (s : (u : List ℕ) × (sign : ℕ) × (v : List ℕ) × (t ≡ u ++ sign ∷ v) × (moved (base len u) sign (result_ok (whole v)) ≡ Some z)). ap (λ y. place y len) s.3 ∙ moved_read len s.0 s.2 s.1 z s.4)
+    (λ (s : (u : List ℕ) × (sign : ℕ) × (v : List ℕ) × (t ≡ u ++ sign ∷ v) × (moved (before len u) sign (behind v) ≡ Some z)). ap (λ y. place y len) s.3 ∙ moved_read len s.0 s.2 s.1 z s.4)
     h
 
 -- a cut that is found is a sum or a difference
 abbrev Cut : ℕ → List ℕ → ℤ → Type 0
-Cut len t z = (u : List ℕ) × (sign : ℕ) × (v : List ℕ) × (t ≡ u ++ sign ∷ v) × (moved (base len u) sign (result_ok (whole v)) ≡ Some z)
+Cut len t z = (u : List ℕ) × (sign : ℕ) × (v : List ℕ) × (t ≡ u ++ sign ∷ v) × (moved (before len u) sign (behind v) ≡ Some z)
 
 cut_found : (len : ℕ) (u t : List ℕ) (z : ℤ) → cut len u t ≡ Some z → Cut len (u ++ t) z
 cut_found len u [] z e = absurd (cc)
-cut_found len u (c ∷ t) z e = go (cut_found len (u ++ c ∷ []) t z) (moved (base len u) c (result_ok (whole t))) refl e
+cut_found len u (c ∷ t) z e = go (cut_found len (u ++ c ∷ []) t z) (moved (before len u) c (behind t)) refl e
   where
-    go : (cut len (u ++ c ∷ []) t ≡ Some z → Cut len ((u ++ c ∷ []) ++ t) z) → (o : Option ℤ) → moved (base len u) c (result_ok (whole t)) ≡ o → option_or o (cut len (u ++ c ∷ []) t) ≡ Some z → Cut len (u ++ c ∷ t) z
+    go : (cut len (u ++ c ∷ []) t ≡ Some z → Cut len ((u ++ c ∷ []) ++ t) z) → (o : Option ℤ) → moved (before len u) c (behind t) ≡ o → option_or o (cut len (u ++ c ∷ []) t) ≡ Some z → Cut len (u ++ c ∷ t) z
     go later (Some a) m f = (u, c, t, refl, m ∙ f)
     go later None m f = subst (λ y. Cut len y z) (append_assoc u (c ∷ []) t) (later f)
 

@@ -2,7 +2,7 @@
 use Rattle.std.proofs.Common.{lit<, ◌≡◌, ℕ, zero, suc, ◌+◌, ◌-◌, ◌*◌, ◌<◌, ◌≤◌, Bool, true, false, not, cond, List, [], ◌∷◌, ◌++◌, Option, Some, None, Result, Ok, Err, length, get_or, take, drop, sym, ap, ◌∙◌, subst, refl, arith, eqb, reverse, min, append_assoc, ℤ, pos, neg_ℤ, ◌+ℤ◌, ◌-ℤ◌, ◌≤ℤ◌, ◌^◌, to_z, of_z}
 use mir.Syntax.{w128}
 use Rattle.std.proofs.lemmas.Int.{ints}
-use Rattle.std.proofs.lemmas.List.{length-drop, length-take, length-append, append-nil, get_or-append-add, take_all, get_or-drop, get_or-take, get_or-reverse, get_or_append_left, take-append-drop}
+use Rattle.std.proofs.lemmas.List.{length-drop, length-take, length-take-le, length-append, append-nil, get_or-append-add, take_all, get_or-drop, get_or-take, get_or-reverse, get_or_append_left, take-append-drop}
 use Rattle.std.proofs.Math.Seq.{get_or-append_seam, drop-cons}
 use Rattle.std.proofs.Math.Numerals.{add-one}
 use Rattle.std.proofs.lemmas.List.Sums.{prefix_len_passes, prefix_len_is}
@@ -17,13 +17,14 @@ use Rattle.std.specs.Str.{bytes_eq, chars}
 use Rattle.std.specs.Char.{digit_value, is_digit}
 use mathlib.Core.Logic.{⊎_elim, ◌⊎◌, inl, inr}
 use Rattle.tclv_text.specs.Characters.{is_space}
-use Rattle.tclv_text.specs.Numbers.{trim, digits_after, number, radix_of, number_in, based_number, unsigned, without_sign, is_minus, is_float_form, in_range, whole}
+use Rattle.tclv_text.specs.Numbers.{trim, trim_end, digits_after, number, radix_of, number_in, based_number, unsigned, without_sign, is_minus, is_float_form, in_range, whole}
 use Rattle.tclv_text.specs.declared.numbers.WholeFault.{WholeFault}
 use Rattle.tclv_text.specs.declared.numbers.WholeFault.TheVariants.{NotWhole, FloatForm}
 use Rattle.tclv_text.proofs.NumbersLifted.{radix_small, whole_high}
-use Rattle.tclv_text.proofs.AsciiLemmas.{HasHigh, lifted, tail_high}
+use Rattle.tclv_text.proofs.AsciiLemmas.{HasHigh, lifted, tail_high, take_high, back_ends}
+use Rattle.tclv_text.proofs.Lifted.{high_no_space}
 use Rattle.tclv_text.specs.Texts.{IsText}
-use Rattle.tclv_text.specs.Indices.{base, moved, cut, place, is_sign, is_lead, sign_place}
+use Rattle.tclv_text.specs.Indices.{base, before, behind, moved, cut, place, is_sign, is_lead, sign_place}
 
 -- Digits and letters: a unit below them ends a number.
 digits_low : (r n : ℕ) (cs : List ℕ) (i : ℕ) → r ≤ 36 → i < length cs → get_or cs i 0 < 48 → digits_after r n cs ≡ None
@@ -159,19 +160,42 @@ end_behind (suc zero) h = refl
 end_behind (suc (suc zero)) h = refl
 end_behind (suc (suc (suc k))) h = absurd (omega arith)
 
-end_body : HasBody (codes "end")
-end_body = record { at = 0; inside = lit< tt; lead = λ k h. absurd (omega arith); body = refl; behind = λ k g h. end_behind k h }
+-- `end`, and white space behind it
+end_body : (u : List ℕ) → trim_end u ≡ codes "end" → HasBody u
+end_body u e =
+    let n = length u - suffix_len is_space u in
+    let long : n ≡ 3 = sym (length-take-le n u (omega arith)) ∙ ap length e in
+    let same : (k : ℕ) → k < n → get_or u k 0 ≡ get_or (codes "end") k 0 = λ k h. sym (get_or-take n u k 0 h) ∙ ap (λ x. get_or x k 0) e in
+    record {
+      at = 0;
+      inside = omega arith;
+      lead = λ k h. absurd (omega arith);
+      body = ap is_lead (same 0 (omega arith));
+      behind = λ k g h. ⊎_elim (λ (l : k < n). ap is_sign (same k l) ∙ end_behind k (omega arith)) (λ (m : n ≤ k). space_no_sign (get_or u k 0) (back_passes is_space u k m h)) (cases_lt k n);
+    }
 
 pub base_body : (len : ℕ) (u : List ℕ) (a : ℤ) → base len u ≡ Some a → HasBody u
 base_body len u a e =
     ⊎_elim
-    (λ (q : bytes_eq u (codes "end") ≡ true). subst HasBody (sym ((bytes_eq-Decides u (codes "end")).0 q)) end_body)
-    (λ (q : bytes_eq u (codes "end") ≡ false). ok_body (whole u) refl (sym (cond-false _ _ _ q) ∙ e))
-    (cases_Bool (bytes_eq u (codes "end")))
+    (λ (q : bytes_eq (trim_end u) (codes "end") ≡ true). end_body u ((bytes_eq-Decides (trim_end u) (codes "end")).0 q))
+    (λ (q : bytes_eq (trim_end u) (codes "end") ≡ false). ok_body (whole u) refl (sym (cond-false _ _ _ q) ∙ e))
+    (cases_Bool (bytes_eq (trim_end u) (codes "end")))
   where
     ok_body : (r : Result ℤ WholeFault) → whole u ≡ r → result_ok r ≡ Some a → HasBody u
     ok_body (Ok z) w h = whole_body u z w
     ok_body (Err f) w h = let n : None ≡ Some a = h in absurd (cc)
+
+-- what may stand before a sign and behind it
+kept_some : (b : Bool) (o : Option ℤ) (a : ℤ) → cond b o None ≡ Some a → o ≡ Some a
+kept_some true o a e = e
+kept_some false o a e = absurd (cc)
+
+kept_none : (b : Bool) (o : Option ℤ) → o ≡ None → cond b o None ≡ None
+kept_none true o e = e
+kept_none false o e = refl
+
+pub before_body : (len : ℕ) (u : List ℕ) (a : ℤ) → before len u ≡ Some a → HasBody u
+before_body len u a e = base_body len u a (kept_some (eqb (suffix_len is_space u) 0) (base len u) a e)
 
 -- a sign behind such a text is the place to cut
 pub sign_behind : (u v : List ℕ) (c : ℕ) → HasBody u → is_sign c ≡ true → sign_place (u ++ c ∷ v) ≡ length u
@@ -199,8 +223,8 @@ not_moved (Some a) None c h = refl
 not_moved (Some a) (Some b) c h = no_sign_none a b c (false_from_ne_true (is_sign c) (h a refl))
 
 -- no other character is one
-no_cut_at : (len : ℕ) (u v : List ℕ) (c : ℕ) (w : Option ℤ) → (sign_place (u ++ c ∷ v) ≡ length u → ⊥) → moved (base len u) c w ≡ None
-no_cut_at len u v c w h = not_moved (base len u) w c (λ a e s. h (sign_behind u v c (base_body len u a e) s))
+no_cut_at : (len : ℕ) (u v : List ℕ) (c : ℕ) (w : Option ℤ) → (sign_place (u ++ c ∷ v) ≡ length u → ⊥) → moved (before len u) c w ≡ None
+no_cut_at len u v c w h = not_moved (before len u) w c (λ a e s. h (sign_behind u v c (before_body len u a e) s))
 
 front_more : (u : List ℕ) (c : ℕ) (v : List ℕ) → (u ++ c ∷ []) ++ v ≡ u ++ c ∷ v
 front_more u c v = append_assoc u (c ∷ []) v
@@ -212,7 +236,7 @@ length_more u c = length-append u (c ∷ [])
 cut_none : (len p : ℕ) (u v : List ℕ) → sign_place (u ++ v) ≡ p → (p < length u) ⊎ (length u + length v ≤ p) → cut len u v ≡ None
 cut_none len p u [] e h = refl
 cut_none len p u (c ∷ v) e h =
-    let here = no_cut_at len u v c (result_ok (whole v)) (λ q. ⊎_elim (λ (l : p < length u). omega arith) (λ (g : length u + suc (length v) ≤ p). omega arith) h) in
+    let here = no_cut_at len u v c (behind v) (λ q. ⊎_elim (λ (l : p < length u). omega arith) (λ (g : length u + suc (length v) ≤ p). omega arith) h) in
     let more = length_more u c in
     ap (λ o. option_or o (cut len (u ++ c ∷ []) v)) here
     ∙ cut_none len p (u ++ c ∷ []) v (ap sign_place (front_more u c v) ∙ e) (⊎_elim (λ (l : p < length u). inl (omega arith)) (λ (g : length u + suc (length v) ≤ p). inr (omega arith)) h)
@@ -221,25 +245,25 @@ or_none : (o : Option ℤ) → option_or o None ≡ o
 or_none None = refl
 or_none (Some a) = refl
 
-pub cut_some : (len : ℕ) (u a b : List ℕ) (c : ℕ) → sign_place (u ++ (a ++ c ∷ b)) ≡ length u + length a → cut len u (a ++ c ∷ b) ≡ moved (base len (u ++ a)) c (result_ok (whole b))
+pub cut_some : (len : ℕ) (u a b : List ℕ) (c : ℕ) → sign_place (u ++ (a ++ c ∷ b)) ≡ length u + length a → cut len u (a ++ c ∷ b) ≡ moved (before len (u ++ a)) c (behind b)
 cut_some len u [] b c e =
-    let m = moved (base len u) c (result_ok (whole b)) in
+    let m = moved (before len u) c (behind b) in
     let more = length_more u c in
     let rest = cut_none len (length u) (u ++ c ∷ []) b (ap sign_place (front_more u c b) ∙ e ∙ omega arith) (inl (omega arith)) in
-    ap (option_or m) rest ∙ or_none m ∙ ap (λ x. moved (base len x) c (result_ok (whole b))) (sym (append-nil u))
+    ap (option_or m) rest ∙ or_none m ∙ ap (λ x. moved (before len x) c (behind b)) (sym (append-nil u))
 cut_some len u (x ∷ a) b c e =
-    let here = no_cut_at len u (a ++ c ∷ b) x (result_ok (whole (a ++ c ∷ b))) (λ q. omega arith) in
+    let here = no_cut_at len u (a ++ c ∷ b) x (behind (a ++ c ∷ b)) (λ q. omega arith) in
     let more = length_more u x in
     ap (λ o. option_or o (cut len (u ++ x ∷ []) (a ++ c ∷ b))) here
     ∙ cut_some len (u ++ x ∷ []) a b c (ap sign_place (front_more u x (a ++ c ∷ b)) ∙ e ∙ omega arith)
-    ∙ ap (λ y. moved (base len y) c (result_ok (whole b))) (front_more u x a)
+    ∙ ap (λ y. moved (before len y) c (behind b)) (front_more u x a)
 
 -- the text has no place to cut it
 pub no_cut : (len n : ℕ) (t : List ℕ) → n ≡ sign_place t → n ≡ length t → None ≡ cut len [] t
 no_cut len n t e h = sym (cut_none len n [] t (sym e) (inr (omega arith)))
 
 -- it is cut at that place
-pub cut_here : (len n : ℕ) (t : List ℕ) (o w : Option ℤ) → n ≡ sign_place t → n < length t → o ≡ base len (take n t) → w ≡ result_ok (whole (take (length t - (n + 1)) (drop (n + 1) t))) →
+pub cut_here : (len n : ℕ) (t : List ℕ) (o w : Option ℤ) → n ≡ sign_place t → n < length t → o ≡ before len (take n t) → w ≡ behind (take (length t - (n + 1)) (drop (n + 1) t)) →
     moved o (get_or t n 0) w ≡ cut len [] t
 cut_here len n t o w e l p q =
     let rest = drop (n + 1) t in
@@ -247,7 +271,7 @@ cut_here len n t o w e l p q =
     let split : take n t ++ get_or t n 0 ∷ rest ≡ t = ap (λ x. take n t ++ x) (sym (drop-cons t n 0 l ∙ ap (λ k. get_or t n 0 ∷ drop k t) (sym (add-one n)))) ∙ take-append-drop n t in
     let long : length (take n t) ≡ n = length-take n t ∙ omega arith in
     let whole_cut = cut_some len [] (take n t) rest (get_or t n 0) (ap sign_place split ∙ sym e ∙ omega (arith, long)) in
-    ap (λ x. moved x (get_or t n 0) w) p ∙ ap (moved (base len (take n t)) (get_or t n 0)) (q ∙ ap (λ x. result_ok (whole x)) all) ∙ sym whole_cut ∙ ap (cut len []) split
+    ap (λ x. moved x (get_or t n 0) w) p ∙ ap (moved (before len (take n t)) (get_or t n 0)) (q ∙ ap behind all) ∙ sym whole_cut ∙ ap (cut len []) split
 
 -- A text with a character that is not ASCII is no place.
 low_ends : (k : ℕ) → k < 3 → get_or (codes "end") k 0 < 128
@@ -262,31 +286,39 @@ low_end h = omega (arith, h.inside, h.high, low_ends h.at h.inside)
 high_no_sign : (c : ℕ) → 128 ≤ c → is_sign c ≡ false
 high_no_sign c h = grind (arith, nat_tests)
 
-no_end : (t : List ℕ) → HasHigh t → bytes_eq t (codes "end") ≡ false
-no_end t h = false_from_ne_true _ (λ e. low_end (subst HasHigh ((bytes_eq-Decides t (codes "end")).0 e) h))
+no_end : (t : List ℕ) → HasHigh t → bytes_eq (trim_end t) (codes "end") ≡ false
+no_end t h =
+    let high : HasHigh (trim_end t) = take_high _ t h (back_ends is_space high_no_space t h) in
+    false_from_ne_true _ (λ e. low_end (subst HasHigh ((bytes_eq-Decides (trim_end t) (codes "end")).0 e) high))
 
 base_high : (len : ℕ) (t : List ℕ) → HasHigh t → base len t ≡ None
 base_high len t h = cond-false _ _ _ (no_end t h) ∙ ap result_ok (whole_high t h)
+
+before_high : (len : ℕ) (t : List ℕ) → HasHigh t → before len t ≡ None
+before_high len t h = kept_none (eqb (suffix_len is_space t) 0) (base len t) (base_high len t h)
+
+behind_high : (t : List ℕ) → HasHigh t → behind t ≡ None
+behind_high t h = kept_none (eqb (prefix_len is_space t) 0) (result_ok (whole t)) (ap result_ok (whole_high t h))
 
 moved_none : (o : Option ℤ) (c : ℕ) → moved o c None ≡ None
 moved_none None c = refl
 moved_none (Some a) c = refl
 
 -- the character that is not ASCII stands before the sign, at it or behind it
-split_high : (len : ℕ) (u v : List ℕ) (c : ℕ) → HasHigh (u ++ c ∷ v) → moved (base len u) c (result_ok (whole v)) ≡ None
+split_high : (len : ℕ) (u v : List ℕ) (c : ℕ) → HasHigh (u ++ c ∷ v) → moved (before len u) c (behind v) ≡ None
 split_high len u v c h =
     let here = get_or (u ++ c ∷ v) h.at 0 in
-    let w = result_ok (whole v) in
+    let w = behind v in
     ⊎_elim
-    (λ (l : h.at < length u). ap (λ o. moved o c w) (base_high len u (record { at = h.at; inside = l; high = subst (λ x. 128 ≤ x) (get_or_append_left u (c ∷ v) 0 h.at l) h.high })))
+    (λ (l : h.at < length u). ap (λ o. moved o c w) (before_high len u (record { at = h.at; inside = l; high = subst (λ x. 128 ≤ x) (get_or_append_left u (c ∷ v) 0 h.at l) h.high })))
     (λ (g : length u ≤ h.at).
     let n = h.at - length u in
     let j : length u + n ≡ h.at = omega arith in
     let q : get_or (u ++ c ∷ v) h.at 0 ≡ get_or (c ∷ v) n 0 = ap (λ k. get_or (u ++ c ∷ v) k 0) (sym j) ∙ get_or-append-add u (c ∷ v) n 0 in
-    let behind : HasHigh (c ∷ v) = record { at = n; inside = omega (arith, length-append u (c ∷ v), h.inside); high = subst (λ x. 128 ≤ x) q h.high } in
+    let rest : HasHigh (c ∷ v) = record { at = n; inside = omega (arith, length-append u (c ∷ v), h.inside); high = subst (λ x. 128 ≤ x) q h.high } in
     ⊎_elim
-    (λ (l : c < 128). ap (λ r. moved (base len u) c (result_ok r)) (whole_high v (tail_high c v l behind)) ∙ moved_none (base len u) c)
-    (λ (k : 128 ≤ c). not_moved (base len u) w c (λ a e s. true≢false (sym s ∙ high_no_sign c k)))
+    (λ (l : c < 128). ap (moved (before len u) c) (behind_high v (tail_high c v l rest)) ∙ moved_none (before len u) c)
+    (λ (k : 128 ≤ c). not_moved (before len u) w c (λ a e s. true≢false (sym s ∙ high_no_sign c k)))
     (cases_lt c 128))
     (cases_lt h.at (length u))
 
@@ -294,7 +326,7 @@ cut_high : (len : ℕ) (u v : List ℕ) → HasHigh (u ++ v) → cut len u v ≡
 cut_high len u [] h = refl
 cut_high len u (c ∷ v) h =
     let rest = cut_high len (u ++ c ∷ []) v (subst HasHigh (sym (front_more u c v)) h) in
-    let here : moved (base len u) c (result_ok (whole v)) ≡ None = split_high len u v c h in
+    let here : moved (before len u) c (behind v) ≡ None = split_high len u v c h in
     ap (λ o. option_or o (cut len (u ++ c ∷ []) v)) here ∙ rest
 
 place_high : (len : ℕ) (t : List ℕ) → HasHigh t → place t len ≡ None

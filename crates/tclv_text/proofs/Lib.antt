@@ -21,3 +21,6 @@ pub mod QuoteLemmas
 pub mod QuotesLifted
 pub mod GlobCases
 pub mod IndexCases
+pub mod TrimLemmas
+pub mod FoldLemmas
+pub mod PairLemmas

@@ -47,7 +47,7 @@ abbrev pub is_empty : List ℕ → Bool
 is_empty [] = true
 is_empty (c ∷ t) = false
 
--- The pattern behind its first n characters fits the text. No pattern fits the empty text; `*` before a pattern fits a text that ends with
+-- The pattern behind its first n characters fits the text. The empty pattern fits only the empty text; `*` before a pattern fits a text that ends with
 -- one that the pattern fits; another part before a pattern fits one character before a text that the pattern fits.
 abbrev pub fits_behind : ℕ → List ℕ → List ℕ → Bool
 fits_behind n [] t = is_empty t

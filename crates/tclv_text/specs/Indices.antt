@@ -2,16 +2,24 @@
 use Rattle.std.specs.Prelude.{◌≡◌, ◌⊎◌, ℕ, ◌+◌, Bool, not, ◌||◌, ◌==◌, if◌then◌else◌, List, [], ◌∷◌, ◌++◌, drop, Option, Some, None, Result, ℤ, pos, ◌+ℤ◌, ◌-ℤ◌, codes}
 use Rattle.std.specs.Option.{option_or, ok_or}
 use Rattle.std.specs.Result.{result_ok}
-use Rattle.std.specs.List.{prefix_len}
+use Rattle.std.specs.List.{prefix_len, suffix_len}
 use Rattle.std.specs.Str.{bytes_eq}
 use Rattle.tclv_text.specs.declared.indices.IndexFault.{IndexFault}
 use Rattle.tclv_text.specs.declared.indices.IndexFault.TheVariants.{BadIndex}
 use Rattle.tclv_text.specs.Characters.{is_space}
-use Rattle.tclv_text.specs.Numbers.{whole}
+use Rattle.tclv_text.specs.Numbers.{trim_end, whole}
 
--- a whole number, or `end`, which is the last place: one below the length
+-- a whole number, or `end` with white space behind it or none, which is the last place: one below the length
 abbrev pub base : ℕ → List ℕ → Option ℤ
-base len t = if bytes_eq t (codes "end") then Some (pos len -ℤ pos 1) else result_ok (whole t)
+base len t = if bytes_eq (trim_end t) (codes "end") then Some (pos len -ℤ pos 1) else result_ok (whole t)
+
+-- such a place without white space at its end, as it stands before a sign
+abbrev pub before : ℕ → List ℕ → Option ℤ
+before len u = if suffix_len is_space u == 0 then base len u else None
+
+-- a whole number without white space in front, as it stands behind a sign
+abbrev pub behind : List ℕ → Option ℤ
+behind v = if prefix_len is_space v == 0 then result_ok (whole v) else None
 
 -- a place and a number with a sign between them, which adds the number or takes it away
 abbrev pub moved : Option ℤ → ℕ → Option ℤ → Option ℤ
@@ -22,15 +30,16 @@ moved (Some a) sign (Some b) = if sign == 43 then Some (a +ℤ b) else (if sign 
 -- A text of which the front was passed, cut at one sign, with a place before the sign and a whole number behind it.
 abbrev pub cut : ℕ → List ℕ → List ℕ → Option ℤ
 cut len front [] = None
-cut len front (c ∷ rest) = option_or (moved (base len front) c (result_ok (whole rest))) (cut len (front ++ c ∷ []) rest)
+cut len front (c ∷ rest) = option_or (moved (before len front) c (behind rest)) (cut len (front ++ c ∷ []) rest)
 
--- The place that the text is, where the length is len: `N`, `end`, `N+M`, `N-M`, `end+M` or `end-M`, with whole numbers N and M.
+-- The place that the text is, where the length is len: `N`, `end`, `N+M`, `N-M`, `end+M` or `end-M`, with whole numbers N and M. White space
+-- may stand before a number that comes first, and at the end; none stands beside the sign.
 unfoldable pub place : List ℕ → ℕ → Option ℤ
 place t len = option_or (base len t) (cut len [] t)
 
--- The same by cases on the whole text: it is a place, or a place, a sign and a whole number.
+-- The same by cases on the whole text: it is a place, or a place, a sign and a whole number, with no white space beside the sign.
 abbrev pub IsPlace : List ℕ → ℕ → ℤ → Type 0
-IsPlace t len z = (base len t ≡ Some z) ⊎ ((u : List ℕ) × (sign : ℕ) × (v : List ℕ) × (t ≡ u ++ sign ∷ v) × (moved (base len u) sign (result_ok (whole v)) ≡ Some z))
+IsPlace t len z = (base len t ≡ Some z) ⊎ ((u : List ℕ) × (sign : ℕ) × (v : List ℕ) × (t ≡ u ++ sign ∷ v) × (moved (before len u) sign (behind v) ≡ Some z))
 
 abbrev pub index : List ℕ → ℕ → Result ℤ IndexFault
 index t len = ok_or (place t len) BadIndex

@@ -3,6 +3,7 @@ pub mod Characters
 pub mod Scans
 pub mod Cuts
 pub mod Numbers
+pub mod Trims
 pub mod Truths
 pub mod Indices
 pub mod Globs
@@ -11,5 +12,6 @@ pub mod Escapes
 pub mod Cursors
 pub mod Lists
 pub mod Elements
+pub mod Pairs
 pub mod Spans
 pub mod Quotes

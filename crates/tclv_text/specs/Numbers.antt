@@ -9,9 +9,13 @@ use Rattle.tclv_text.specs.declared.numbers.WholeFault.{WholeFault}
 use Rattle.tclv_text.specs.declared.numbers.WholeFault.TheVariants.{NotWhole, TooLarge, FloatForm}
 use Rattle.tclv_text.specs.Characters.{is_space}
 
+-- the text without the white space at its end
+abbrev pub trim_end : List ℕ → List ℕ
+trim_end u = take (length u - suffix_len is_space u) u
+
 -- the text without the white space at its ends
 unfoldable pub trim : List ℕ → List ℕ
-trim t = let u = drop (prefix_len is_space t) t in take (length u - suffix_len is_space u) u
+trim t = trim_end (drop (prefix_len is_space t) t)
 
 -- without one sign in front
 abbrev pub without_sign : List ℕ → List ℕ

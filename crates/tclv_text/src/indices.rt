@@ -5,10 +5,10 @@ ghost use Rattle.std.specs.Result.{result_ok};
 ghost use Rattle.tclv_text.specs.Numbers.{whole};
 ghost use Rattle.std.specs.List.{prefix_len};
 ghost use Rattle.tclv_text.specs.Texts.{IsText};
-ghost use Rattle.tclv_text.specs.Indices.{base, cut, place, index, is_sign, is_lead, sign_place};
+ghost use Rattle.tclv_text.specs.Indices.{base, before, behind, cut, place, index, is_sign, is_lead, sign_place};
 
-use crate::characters::is_space;
-use crate::numbers::whole_of;
+use crate::characters::{is_space, space_len};
+use crate::numbers::{end_space_len, trim_end, whole_of};
 use thiserror::Error;
 
 /// Why a text is no place.
@@ -69,19 +69,47 @@ fn number(text: &[u8]) -> Option<i128>
     }
 }
 
-/// The whole number that these bytes write, or the last place where they are `end`.
+/// The whole number that these bytes write, or the last place where they are `end` with white space
+/// behind it or none.
 fn base(text: &[u8], len: u64) -> Option<i128>
     ensures value { result ≡ base len text.now }
     ensures low { IfSome result (λ z. neg_ℤ (pos (2 ^ 64)) ≤ℤ z) }
     ensures high { IfSome result (λ z. z ≤ℤ pos (2 ^ 64)) }
 {
-    if text == b"end".as_slice() {
+    if trim_end(text) == b"end".as_slice() {
         return Some(len as i128 - 1);
     }
     number(text)
 }
 
-/// The place that these bytes are by a sign between a place and a number.
+/// The place that these bytes write, if no white space stands at their end.
+fn before(text: &[u8], len: u64) -> Option<i128>
+    ensures value { result ≡ before len text.now }
+    ensures low { IfSome result (λ z. neg_ℤ (pos (2 ^ 64)) ≤ℤ z) }
+    ensures high { IfSome result (λ z. z ≤ℤ pos (2 ^ 64)) }
+{
+    if end_space_len(text) == 0 {
+        base(text, len)
+    } else {
+        None
+    }
+}
+
+/// The whole number that these bytes write, if no white space stands in front.
+fn behind(text: &[u8]) -> Option<i128>
+    ensures value { result ≡ behind text.now }
+    ensures low { IfSome result (λ z. neg_ℤ (pos (2 ^ 64)) ≤ℤ z) }
+    ensures high { IfSome result (λ z. z ≤ℤ pos (2 ^ 64)) }
+{
+    if space_len(text) == 0 {
+        number(text)
+    } else {
+        None
+    }
+}
+
+/// The place that these bytes are by a sign between a place and a number, with no white space beside
+/// the sign.
 fn moved(text: &[u8], len: u64) -> Option<i128>
     ensures { result ≡ cut len [] text.now }
 {
@@ -89,8 +117,8 @@ fn moved(text: &[u8], len: u64) -> Option<i128>
     if at == text.len() {
         return None;
     }
-    let place = base(&text[..at], len)?;
-    let by = number(&text[at + 1..])?;
+    let place = before(&text[..at], len)?;
+    let by = behind(&text[at + 1..])?;
     if text[at] == b'+' {
         Some(place + by)
     } else if text[at] == b'-' {
@@ -113,9 +141,11 @@ fn place(text: &[u8], len: u64) -> Option<i128>
 
 /// The place that a text, given as UTF-8, names in a list or a text of `len` elements: `N`, `end`,
 /// `N+M`, `N-M`, `end+M` or `end-M`. `N` and `M` are whole numbers as [`whole`](crate::whole) reads
-/// them, each with white space and a sign of its own, so `1+-1` is 0; `end` has no white space
-/// around it. It is the last place, `len - 1`, and -1 where there is none. Places count from 0, and
-/// the answer may lie outside `0..len`. (Tcl: string(n), "String indices".)
+/// them, each with a sign of its own or none, so `1+-1` is 0. White space may stand before a number
+/// that comes first and at the text's end, as in ` 1-1 ` and `end `; none stands beside the sign
+/// between `N` and `M`, nor before `end`. `end` is the last place, `len - 1`, and -1 where there is
+/// none. Places count from 0, and the answer may lie outside `0..len`. (Tcl: string(n), "String
+/// indices".)
 ///
 /// Refuses with `BadIndex` exactly the texts of no such form, those with a number outside 64 bits
 /// among them. Takes no memory.
@@ -141,11 +171,12 @@ mod tests {
             ("end", 0, -1),
             ("end-1", 5, 3),
             ("end+2", 5, 6),
-            ("end- 1", 5, 3),
+            ("end ", 5, 4),
+            ("end-1 ", 5, 3),
             ("end--1", 5, 5),
             ("1+1", 5, 2),
             ("1+-1", 5, 0),
-            (" -1 - +2 ", 5, -3),
+            (" -1-+2\t", 5, -3),
             ("0x10-0b1", 5, 15),
             (
                 "9223372036854775807+9223372036854775807",
@@ -158,7 +189,7 @@ mod tests {
             assert_eq!(rt; index_of(text.as_bytes(), len), Ok(want), "at {text}");
         }
         let bad =
-            "|x|e|en|End| end|end |end -1|end+|end+end|1+|+|1 1|1+1+1|1*1|1.5|1e1|1+1.0|9223372036854775808|0-9223372036854775809";
+            "|x|e|en|End| end|end -1|end- 1|end x|1 -1|2 - 1|1- 1|1+ -1|end+|end+end|1+|+|1 1|1+1+1|1*1|1.5|1e1|1+1.0|9223372036854775808|0-9223372036854775809";
         for text in bad.split('|') {
             assert_eq!(rt;
                 index_of(text.as_bytes(), 5),

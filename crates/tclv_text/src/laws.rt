@@ -6,3 +6,4 @@ pub mod globs;
 pub mod indices;
 pub mod lists;
 pub mod numbers;
+pub mod pairs;

@@ -5,7 +5,7 @@ ghost use Rattle.std.specs.List.{prefix_len, suffix_len};
 ghost use Rattle.std.specs.Char.{digit_value, is_ascii_digit, is_ascii_hexdigit};
 ghost use Rattle.tclv_text.specs.Texts.{IsText, Appends, AppendsText};
 ghost use Rattle.tclv_text.specs.Characters.{is_space};
-ghost use Rattle.tclv_text.specs.Numbers.{trim, number, radix_of, number_in, based_number, unsigned, capped, without_sign, is_digits, is_exponent, is_fraction_or_exponent, is_decimal_fraction, is_closed_digits, is_nan_with_digits, is_named_float, is_float_form, in_range, whole, whole_text};
+ghost use Rattle.tclv_text.specs.Numbers.{trim, trim_end, number, radix_of, number_in, based_number, unsigned, capped, without_sign, is_digits, is_exponent, is_fraction_or_exponent, is_decimal_fraction, is_closed_digits, is_nan_with_digits, is_named_float, is_float_form, in_range, whole, whole_text};
 
 use crate::NoMemory;
 use crate::characters::{digit, is_space, space_len};
@@ -28,20 +28,26 @@ pub enum WholeFault {
 
 /// How many bytes of white space the text ends with.
 #[tactic(auto, using(crate::proofs::CharacterLemmas::front_lengths))]
-fn end_space_len(text: &[u8]) -> usize
+pub(crate) fn end_space_len(text: &[u8]) -> usize
     ensures len { result ≡ suffix_len is_space text.now }
     ensures within { result ≤ length text.now }
 {
     text.iter().rev().take_while(|b| is_space(**b)).count()
 }
 
+/// The text without the white space at its end.
+pub(crate) fn trim_end(text: &[u8]) -> &[u8]
+    ensures { result.now ≡ trim_end text.now }
+{
+    &text[..text.len() - end_space_len(text)]
+}
+
 /// The text without the white space at its ends.
 #[tactic(auto, unfolding(crate::specs::Numbers::trim))]
-fn trim(text: &[u8]) -> &[u8]
+pub(crate) fn trim(text: &[u8]) -> &[u8]
     ensures { result.now ≡ trim text.now }
 {
-    let rest = &text[space_len(text)..];
-    &rest[..rest.len() - end_space_len(rest)]
+    trim_end(&text[space_len(text)..])
 }
 
 /// The text without one sign in front.

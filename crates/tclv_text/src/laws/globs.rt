@@ -3,9 +3,9 @@ ghost use Rattle.std.specs.Prelude.{◌≡◌, ◌≢◌, ◌==◌, ℕ, true, f
 ghost use Rattle.std.specs.List.{list_all};
 ghost use Rattle.tclv_text.specs.Globs.{is_member, is_open, begins, is_empty, fits, matches};
 
-/// What a pattern fits, by its first part: nothing the empty text alone; a star and a pattern the
-/// texts that end with a text of the pattern; a question mark, a set, an escaped or another
-/// character and a pattern one character before a text of the pattern. A set without a `]` is the
+/// What a pattern fits, by its first part: the empty pattern fits only the empty text; a star and a
+/// pattern fit the texts that end with a text of the pattern; a question mark, a set, an escaped or
+/// another character and a pattern fit one character before a text of the pattern. A set without a `]` is the
 /// pattern's last part. A backslash at the end fits nothing.
 pub fn patterns_fit_by_cases()
     ensures nothing { (t : List ℕ) → fits [] t ≡ is_empty t }

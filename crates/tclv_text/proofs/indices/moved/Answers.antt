@@ -1,21 +1,19 @@
 use Rattle.std.proofs.Common.{◌≡◌, ℕ, ◌+◌, ◌-◌, sym, ap, ◌∙◌, arith, Some, None, List, length, drop, take, get_or, ◌+ℤ◌, ◌-ℤ◌, refl}
 use Rattle.std.proofs.lemmas.Bool.{cond-true, cond-false, eq-eqb, ne_eqb}
-use Rattle.std.specs.Result.{result_ok}
-use Rattle.tclv_text.specs.Numbers.{whole}
-use Rattle.tclv_text.specs.Indices.{moved}
+use Rattle.tclv_text.specs.Indices.{moved, behind}
 use Rattle.tclv_text.proofs.IndexLemmas.{no_cut, cut_here, small_sum, small_difference}
 use Rattle.tclv_text.proofs.indices.moved.Goals as goal
 
--- the number behind a sign
-abbrev behind : List ℕ → ℕ → List ℕ
-behind t n = take (length t - (n + 1)) (drop (n + 1) t)
+-- what stands behind a sign
+abbrev rest : List ℕ → ℕ → List ℕ
+rest t n = take (length t - (n + 1)) (drop (n + 1) t)
 
 pub returns-then-at-text : goal.returns-then-at-text
 returns-then-at-text c = no_cut c.args.len c.sign_place-at.result c.args.text.now c.sign_place-at.ensures.place c.if-at-text.true
 
 pub returns-in_err-place : goal.returns-in_err-place
 returns-in_err-place c =
-    let w = result_ok (whole (behind c.args.text.now c.sign_place-at.result)) in
+    let w = behind (rest c.args.text.now c.sign_place-at.result) in
     c.from_residual.ensures ∙ cut_here c.args.len c.sign_place-at.result c.args.text.now None w c.sign_place-at.ensures.place (omega arith) c.in_err-place.ensures.value refl
 
 pub returns-in_err-by : goal.returns-in_err-by

@@ -1,5 +1,4 @@
 use Rattle.std.proofs.Common.{length, ap, ◌∙◌, sym}
-use Rattle.std.specs.Str.{encode_utf8_all}
 use Rattle.std.proofs.lemmas.Str.{encodes-chars}
 use Rattle.tclv_text.specs.Cursors.{size}
 use Rattle.tclv_text.proofs.cursors.Cursor.left.Goals as goal

@@ -1,6 +1,6 @@
-use Rattle.std.proofs.Common.{◌≡◌, true, ap, ◌∙◌}
+use Rattle.std.proofs.Common.{ap, ◌∙◌}
 use Rattle.tclv_text.specs.Cursors.{sign, begins_escape}
-use Rattle.tclv_text.proofs.CursorLemmas.{BeginsEscape, escape-bytes}
+use Rattle.tclv_text.proofs.CursorLemmas.{escape-bytes}
 use Rattle.tclv_text.proofs.cursors.Cursor.skip_escape.Goals as goal
 
 pub backslash-c-requires-clause-some : goal.backslash-c-requires-clause-some

@@ -1,0 +1,37 @@
+-- The usages of commands, one line a command: what stands behind the word of the call, with the space between the two.
+use Rattle.std.specs.Prelude.{ℕ, List, codes}
+use Rattle.tclv_model.specs.declared.usages.Usage.{Usage}
+use Rattle.tclv_model.specs.declared.usages.Usage.TheVariants as usage
+
+abbrev pub usage_of : Usage → List ℕ
+usage_of usage.Append = codes " varName ?value ...?"
+usage_of usage.Break = codes ""
+usage_of usage.Continue = codes ""
+usage_of usage.Eval = codes " arg ?arg ...?"
+usage_of usage.Exit = codes " ?returnCode?"
+usage_of usage.Expr = codes " arg ?arg ...?"
+usage_of usage.For = codes " start test next command"
+usage_of usage.Foreach = codes " varList list ?varList list ...? command"
+usage_of usage.Incr = codes " varName ?increment?"
+usage_of usage.Join = codes " list ?joinString?"
+usage_of usage.Lappend = codes " varName ?value ...?"
+usage_of usage.Lassign = codes " list ?varName ...?"
+usage_of usage.Lindex = codes " list ?index ...?"
+usage_of usage.Linsert = codes " list index ?element ...?"
+usage_of usage.Llength = codes " list"
+usage_of usage.Lmap = codes " varList list ?varList list ...? command"
+usage_of usage.Lpop = codes " varName ?index?"
+usage_of usage.Lrange = codes " list first last"
+usage_of usage.Lremove = codes " list ?index ...?"
+usage_of usage.Lrepeat = codes " count ?value ...?"
+usage_of usage.Lreplace = codes " list first last ?element ...?"
+usage_of usage.Lreverse = codes " list"
+usage_of usage.Lsearch = codes " ?option ...? list pattern"
+usage_of usage.Lseq = codes " n ??op? n ??by? n??"
+usage_of usage.Lset = codes " varName ?index ...? newValue"
+usage_of usage.Lsort = codes " ?option ...? list"
+usage_of usage.Puts = codes " ?-nonewline? ?channelId? string"
+usage_of usage.Set = codes " varName ?newValue?"
+usage_of usage.Split = codes " string ?splitChars?"
+usage_of usage.Switch = codes " ?option ...? string ?pattern body ...? ?default body?"
+usage_of usage.While = codes " test command"
