@@ -2,7 +2,6 @@ pub mod AfterLemmas
 pub mod ChainLemmas
 pub mod FloatingLemmas
 pub mod FrontLemmas
-pub mod FunctionLemmas
 pub mod IntegerLemmas
 pub mod NestingLemmas
 pub mod PowerLemmas
@@ -11,3 +10,4 @@ pub mod ShiftLemmas
 pub mod ShrinkLemmas
 pub mod StartLemmas
 pub mod WholeLemmas
+pub mod LevelLemmas

@@ -74,6 +74,7 @@ stops meaning (stop.Fault (f.Bareword at len)) h = h (f.Bareword at len) refl
 stops meaning (stop.Fault (f.UnknownFunction at len)) h = h (f.UnknownFunction at len) refl
 stops meaning (stop.Fault (f.WrongCount at len)) h = h (f.WrongCount at len) refl
 stops meaning (stop.Fault (f.FloatLiteral at len)) h = h (f.FloatLiteral at len) refl
+stops meaning (stop.Fault f.TooLarge) h = h f.TooLarge refl
 stops meaning (stop.Fault f.TooDeep) h = h f.TooDeep refl
 stops meaning stop.NoMemory h = tt
 

@@ -1,8 +1,11 @@
 -- What the readers of expressions leave behind is never longer than what they were given, so that no count of turns shows.
-use Rattle.std.proofs.Common.{ℕ, zero, suc, ◌+◌, ◌≤◌, ◌==◌, ◌∷◌, [], List, Bool, true, false, cond, drop, take, Option, Some, None, Ok, Err, arith, length, length-drop}
+use Rattle.std.proofs.Common.{ℕ, zero, suc, ◌+◌, ◌≤◌, ◌==◌, ◌∷◌, [], List, Bool, true, false, cond, drop, take, Option, Some, None, Result, Ok, Err, ℤ, arith, length, length-drop}
 use Rattle.tclv_text.specs.Cursors.{sign}
 use Rattle.tclv_text.specs.declared.cursors.Sign.{Sign}
 use Rattle.tclv_text.specs.declared.cursors.Sign.TheVariants as s
+use Rattle.tclv_text.specs.declared.numbers.WholeFault.{WholeFault}
+use Rattle.tclv_text.specs.declared.numbers.WholeFault.TheVariants as w
+use Rattle.tclv_text.specs.Numbers.{whole}
 use Rattle.tclv_text.specs.Truths.{truth}
 use Rattle.tclv_parse.specs.declared.runs.Form.TheVariants as form
 use Rattle.tclv_parse.specs.declared.runs.Run.TheVariants as run
@@ -99,13 +102,22 @@ leaf_less : {A : Type 0} (n at : ℕ) (x : End A) → Within n x → Within n (l
 leaf_less n at (Ok p) w = w
 leaf_less n at (Err e) w = tt
 
+sized_by_less : (n : ℕ) (x t : Text) (r : Result ℤ WholeFault) → length t ≤ n → Within n (e.sized_by x t r)
+sized_by_less n x t (Ok z) h = h
+sized_by_less n x t (Err w.TooLarge) h = tt
+sized_by_less n x t (Err _) h = h
+
+sized_less : (n : ℕ) (x t : Text) → length t ≤ n → Within n (e.sized x t)
+unfolding e.sized
+sized_less n x t h = sized_by_less n x t (whole x) h
+
 module _ (total : ℕ) where
   number_less : Shrinks (e.number total)
   unfolding e.number
   number_less t =
       let n = sign_len t in
       let u = drop n t in
-      either (length t) _ (Err _) _ tt (either (length t) (lacks_digits u) (Err _) (Ok (tree.Literal (take (n + whole_len u) t), drop (n + whole_len u) t)) tt (drop_less (n + whole_len u) t))
+      either (length t) _ (Err _) _ tt (either (length t) (lacks_digits u) (Err _) (e.sized (take (n + whole_len u) t) (drop (n + whole_len u) t)) tt (sized_less (length t) (take (n + whole_len u) t) (drop (n + whole_len u) t) (drop_less (n + whole_len u) t)))
 
   variable_is_less : Shrinks (e.variable total)
   unfolding e.variable

@@ -18,7 +18,7 @@ use Rattle.tclv_parse.specs.Readings.{done}
 use Rattle.tclv_parse.specs.Grammar.{Deeper, deeper_by, max_depth, variable_by, parts, place}
 use Rattle.tclv_parse.specs.Grammar as script_grammar
 use Rattle.tclv_exprp.specs.declared.faults.Fault.{Fault}
-use Rattle.tclv_exprp.specs.declared.faults.Fault.TheVariants.{Syntax, Bareword, UnknownFunction, WrongCount, FloatLiteral, TooDeep}
+use Rattle.tclv_exprp.specs.declared.faults.Fault.TheVariants.{Syntax, Bareword, UnknownFunction, WrongCount, FloatLiteral, TooLarge, TooDeep}
 use Rattle.tclv_exprp.specs.declared.faults.ExprFault.{ExprFault}
 use Rattle.tclv_exprp.specs.declared.faults.ExprFault.TheVariants as e
 use Rattle.tclv_exprp.specs.declared.fronts.Class.TheVariants as class
@@ -112,6 +112,14 @@ word_by at len x t None = Err (bareword at len (whole x))
 unfoldable pub word : ℕ → ℕ → Text → Parser ExprTree
 word at len x t = word_by at len x t (truth x)
 
+abbrev pub sized_by : Text → Text → Result ℤ WholeFault → Outcome ExprTree
+sized_by x t (Err w.TooLarge) = Err TooLarge
+sized_by x t _ = Ok (tree.Literal x, t)
+
+-- a whole number, which needs no more than 64 bits
+unfoldable pub sized : Text → Parser ExprTree
+sized x t = sized_by x t (whole x)
+
 -- In all that follows, `total` is how many bytes the whole text has.
 module _ (total : ℕ) where
   -- ---- faults of syntax
@@ -130,9 +138,10 @@ module _ (total : ℕ) where
   number_by t u n =
       if nat_lt (whole_len u) (floating_len u) then Err (FloatLiteral (place total t) (n + floating_len u))
       else (if lacks_digits u then Err (Syntax (place total (drop 2 u)))
-      else Ok (tree.Literal (take (n + whole_len u) t), drop (n + whole_len u) t))
+      else sized (take (n + whole_len u) t) (drop (n + whole_len u) t))
 
-  -- A number with the sign before it. It stays as it is written. One of floating form is refused; behind the letter of a base a digit must come.
+  -- A number with the sign before it. It stays as it is written. One of floating form is refused, and one that needs more than 64 bits; behind the
+  -- letter of a base a digit must come.
   unfoldable pub number : Parser ExprTree
   number t = number_by t (drop (sign_len t) t) (sign_len t)
 
@@ -258,11 +267,10 @@ max_room = 101
 unfoldable pub expression : Text → Result ExprTree ExprFault
 expression t = whole_by (size t) ((readers (size t) max_room).2 t)
 
--- A function that reads a whole text answers with its tree or its fault, unless memory runs out. No number is too large.
+-- A function that reads a whole text answers with its tree or its fault, unless memory runs out.
 abbrev pub Answers : Result ExprTree ExprFault → Result ExprTree ExprFault → Type 0
 Answers meaning (Ok x) = meaning ≡ Ok x
 Answers meaning (Err e.NoMemory) = Unit {0}
-Answers meaning (Err e.TooLarge) = ⊥
 Answers meaning (Err x) = meaning ≡ Err x
 
 -- ---- laws

@@ -6,3 +6,4 @@ pub mod Infixes
 pub mod Operands
 pub mod Outcomes
 pub mod ExpressionGrammar
+pub mod Levels

@@ -64,6 +64,7 @@ expr_fault (f.Bareword at len) = e.Bareword at len
 expr_fault (f.UnknownFunction at len) = e.UnknownFunction at len
 expr_fault (f.WrongCount at len) = e.WrongCount at len
 expr_fault (f.FloatLiteral at len) = e.FloatLiteral at len
+expr_fault f.TooLarge = e.TooLarge
 expr_fault f.TooDeep = e.TooDeep
 
 abbrev pub stop_fault : Stop → ExprFault

@@ -282,7 +282,9 @@ impl ExprReader {
 ///   that fault of scripts. A level is: the inside of parentheses, an argument, the operand of a
 ///   unary operator, the right operand of `**`, the second and the third operand of `?:`. At one
 ///   place with another fault it counts.
-/// - `TooLarge` never comes: a number stays as it is written. `NoMemory` comes where memory runs out.
+/// - `TooLarge` comes exactly for a number, with the sign directly before it, outside
+///   -2^63..2^63-1, wherever it stands. A number in braces or quotes is a text. `NoMemory` comes
+///   where memory runs out.
 ///
 /// Of the faults the first that is met in reading from the left is given. Time is linear in the
 /// length of the text. (expr(n))

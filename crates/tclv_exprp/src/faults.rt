@@ -26,8 +26,7 @@ pub enum ExprFault {
     /// A floating point number.
     #[error("the {1} bytes at {0} are a floating point number")]
     FloatLiteral(usize, usize),
-    /// A number needs more than 64 bits. It never comes of reading, since a number stays as it is
-    /// written.
+    /// A number that stands in the text, with the sign before it, needs more than 64 bits.
     #[error("a number needs more than 64 bits")]
     TooLarge,
     /// An operand stands inside more than 100 levels, or brackets and indices inside an operand are
@@ -47,6 +46,7 @@ pub(crate) enum Fault {
     UnknownFunction(usize, usize),
     WrongCount(usize, usize),
     FloatLiteral(usize, usize),
+    TooLarge,
     TooDeep,
 }
 
@@ -107,6 +107,7 @@ impl From<Stop> for ExprFault {
                 Fault::UnknownFunction(at, len) => ExprFault::UnknownFunction(at, len),
                 Fault::WrongCount(at, len) => ExprFault::WrongCount(at, len),
                 Fault::FloatLiteral(at, len) => ExprFault::FloatLiteral(at, len),
+                Fault::TooLarge => ExprFault::TooLarge,
                 Fault::TooDeep => ExprFault::TooDeep,
             },
         }

@@ -1,7 +1,10 @@
 //! Laws of the definitions that this crate keeps. Each is the contract of a function that does nothing.
 ghost use Rattle.tclv_exprp.specs.ExpressionGrammar.{ArgumentsAreLists, RowsAreChains};
+ghost use Rattle.tclv_exprp.specs.Levels.{BoundsGrow, TreesHaveLevels};
 ghost use Rattle.tclv_exprp.specs.Numerals.{NumbersAreLongest};
 ghost use Rattle.tclv_exprp.specs.Operators.{RoundsDown};
+
+use tclv_parse::laws::scripts_have_levels;
 
 /// Division rounds down: the divisor times the quotient and the remainder give the number, and the
 /// remainder lies from 0 up to the divisor, without it, on its side of 0.
@@ -25,3 +28,13 @@ pub fn arguments_are_lists()
 pub fn numbers_are_longest()
     ensures { NumbersAreLongest }
 {}
+
+/// The tree of an expression has at most 1616 levels, and the parts in it have at most 100 levels of
+/// brackets and indices. A greater bound holds as well: so whoever walks it may count levels down
+/// from there and never comes to the end.
+pub fn trees_have_levels()
+    ensures trees { TreesHaveLevels }
+    ensures more { BoundsGrow }
+{
+    scripts_have_levels();
+}

@@ -48,6 +48,17 @@ fn bareword(at: usize, len: usize, word: &Text) -> Fault
     }
 }
 
+/// A whole number, which needs no more than 64 bits.
+#[tactic(auto, unfolding(crate::specs::ExpressionGrammar::sized))]
+fn sized(number: Text, cursor: &Cursor<'_>) -> Result<ExprTree, Stop>
+    ensures { Reads (spec.sized number cursor.now) result cursor.now }
+{
+    match whole(number.bytes()) {
+        Err(WholeFault::TooLarge) => Err(Stop::Fault(Fault::TooLarge)),
+        _ => Ok(ExprTree::Literal(number)),
+    }
+}
+
 /// The readers of leaves, each of which goes on at a cursor. After an `Err` the cursor stands at
 /// any place.
 #[derive(Clone, Copy)]
@@ -101,7 +112,7 @@ impl Leaves {
             return Err(Stop::Fault(Fault::Syntax(self.place(&end))));
         }
         let text = take_text(self.alloc, sign + len, cursor)?;
-        Ok(ExprTree::Literal(text))
+        sized(text, cursor)
     }
 
     /// A variable, or an element.

@@ -9,3 +9,4 @@ pub mod TreeLaws
 pub mod Variables
 pub mod ReadLaws
 pub mod Alike
+pub mod LevelLemmas

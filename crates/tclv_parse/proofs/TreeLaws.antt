@@ -1,7 +1,7 @@
 -- Values of readings, and the parts that are found.
 use Rattle.std.proofs.Common.{◌≡◌, ℕ, ◌<◌, List, [], ◌∷◌, ◌++◌, length, Ok, Err, Some, None, Option, Result, refl, sym, ap, ap₂, subst, ◌∙◌, arith, append_assoc, IfOk, IsErrAnd}
 use Rattle.std.specs.Str.{chars}
-use Rattle.std.proofs.lemmas.Str.{encodes-chars}
+use Rattle.std.proofs.lemmas.Str.{encodes-chars, chars-nil}
 use lib.Utf8.{encodes}
 use Rattle.tclv_text.specs.Texts.{IsText}
 use Rattle.tclv_parse.specs.declared.faults.ParseFault.{ParseFault}
@@ -126,3 +126,7 @@ text_part-some bs (c ∷ t) h e some = refl
 
 pub literal-part : (bs t : List ℕ) → IsText bs → chars bs ≡ t → 0 < length bs → part.Literal t ∷ [] ≡ text_part t
 literal-part bs t h e some = sym (text_part-some bs t h e some)
+
+pub no-part : (bs : List ℕ) → length bs ≡ 0 → chars bs ≡ []
+no-part [] h = chars-nil
+no-part (b ∷ bs) h = absurd (omega arith)

@@ -8,3 +8,4 @@ pub mod Steps
 pub mod Complete
 pub mod Trees
 pub mod Readers
+pub mod Levels
