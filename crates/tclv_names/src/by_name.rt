@@ -1,5 +1,6 @@
 // A table by name.
 
+use crate::by_number::Numbered;
 use indexmap::IndexMap;
 use std::alloc::Global;
 use std::marker::Model;
@@ -24,7 +25,7 @@ impl<X> Model for Names<X> {
 }
 
 impl<X: Copy> Names<X> {
-    ghost use Rattle.std.specs.Prelude.{◌≡◌, ◌<◌, Some, OnOk, OnErr, IfOk, IfSome, IfNone};
+    ghost use Rattle.std.specs.Prelude.{◌≡◌, ◌<◌, map as mapped, Some, OnOk, OnErr, IfOk, IfSome, IfNone};
     ghost use Rattle.std.specs.FinMap as map;
 
     /// A table without names.
@@ -73,10 +74,44 @@ impl<X: Copy> Names<X> {
         ensures rest { IfSome result (λ p. self.new ≡ map.remove self.old p.0.items) }
         ensures fewer { IfSome result (λ p. map.len self.new < map.len self.old) }
         ensures empty { IfNone result (self.old ≡ map.empty) }
+        ensures left { IfNone result (self.new ≡ map.empty) }
     {
         let Some((name, x)) = self.table.pop() else {
             return None;
         };
         Some((name, x))
+    }
+
+    /// The names, in the order of their bytes.
+    pub fn names(&self, alloc: Global) -> Result<Vec<Vec<u8>>, NoMemory>
+        ensures { IfOk result (λ r. mapped (λ k. k.items) r.items ≡ map.keys self.now) }
+    {
+        let mut names = Vec::new(alloc);
+        for name in self.table.keys() {
+            let copy = Vec::from_slice(alloc, name.as_slice())?;
+            names.push(copy)?;
+        }
+        names.sort_unstable();
+        Ok(names)
+    }
+}
+
+impl Names<u64> {
+    ghost use Rattle.std.specs.Prelude.{◌≡◌, length, is_some};
+    ghost use Rattle.std.specs.List.{filter};
+    ghost use Rattle.std.specs.FinMap as map;
+    ghost use Rattle.tclv_names.specs.Keyed.{values_of};
+
+    /// How many of the names have a number that stands in the table. Takes no memory.
+    pub fn count_in<Y>(&self, table: &Numbered<Y>) -> usize
+        ensures { result ≡ length (filter (λ n. is_some (map.get table.now.map n)) (values_of self.now)) }
+    {
+        let mut count = 0usize;
+        for (_, number) in self.table.iter() {
+            if table.get(*number).is_some() {
+                count += 1;
+            }
+        }
+        count
     }
 }

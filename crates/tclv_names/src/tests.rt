@@ -11,6 +11,9 @@ fn by_name(rt: HostRuntime) -> Result<(), Fail> {
     table.put(alloc, b"a", 1)?;
     table.put(alloc, b"b", 2)?;
     table.put(alloc, b"a", 3)?;
+    let names = table.names(alloc)?;
+    assert_eq!(rt; names.len(), 2);
+    assert_eq!(rt; names[0].as_slice(), b"a".as_slice());
     assert_eq!(rt; table.get(b"a"), Some(3));
     table.take_out(b"a");
     assert_eq!(rt; table.get(b"a"), None);
@@ -28,6 +31,10 @@ fn by_number(rt: HostRuntime) -> Result<(), Fail> {
         assert_eq!(rt; table.replace(7, 2), 1);
     }
     assert_eq!(rt; table.get(7).copied(), Some(2));
+    let mut names: Names<u64> = Names::new(rt.alloc());
+    names.put(rt.alloc(), b"a", 7)?;
+    names.put(rt.alloc(), b"b", 8)?;
+    assert_eq!(rt; names.count_in(&table), 1);
     assert_eq!(rt; table.take_out(7), Some(2));
     assert_eq!(rt; table.take_out(7), None);
     Ok(())

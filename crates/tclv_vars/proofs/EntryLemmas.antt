@@ -22,11 +22,11 @@ less_apart Less h = refl
 less_apart Equal h = absurd h
 less_apart Greater h = absurd h
 
-first : (a b : Bool) → T (a && b) → T a
+pub first : (a b : Bool) → T (a && b) → T a
 first true b p = tt
 first false b p = p
 
-second : (a b : Bool) → T (a && b) → T b
+pub second : (a b : Bool) → T (a && b) → T b
 second true b p = p
 second false b p = absurd p
 
@@ -63,7 +63,7 @@ module _ {K X : Type 0} {R : K → K → Ordering} (o : IsTotalOrder R) (only : 
   apart : (x k : K) → T (is_lt (R x k)) → eq_by_cmp R k x ≡ false
   apart x k h = (eq_by_cmp_equiv o).symm k x ∙ less_apart (R x k) h
 
-  above_apart : (x k : K) (v : X) (es : List (K × X)) → T (below_all R x es) → find R k es ≡ Some v → eq_by_cmp R k x ≡ false
+  pub above_apart : (x k : K) (v : X) (es : List (K × X)) → T (below_all R x es) → find R k es ≡ Some v → eq_by_cmp R k x ≡ false
   above_apart x k v [] h f = absurd (not_none f)
   above_apart x k v (e ∷ es) h f = elim (eq_by_cmp R k e.0) as (λ b. eq_by_cmp R k e.0 ≡ b → cond b (Some e.1) (find R k es) ≡ Some v → eq_by_cmp R k x ≡ false) [
     | true ↦ λ t g. apart x k (subst (λ q. T (is_lt (R x q))) (sym (only k e.0 (tied (R k e.0) t))) (first _ _ h))

@@ -14,7 +14,7 @@ use Rattle.tclv_vars.specs.Table.{Table, Spot, locate_in, locate_element, locate
 use Rattle.tclv_vars.specs.Sound.{Sound}
 use Rattle.tclv_vars.proofs.ScopeLemmas.{length-with_names, current-with_names, length-pushed}
 
-abbrev Same : Table → Table → Type 0
+abbrev pub Same : Table → Table → Type 0
 Same t u = (u.scopes.current ≡ t.scopes.current) × (length u.scopes.frames ≡ length t.scopes.frames)
 
 abbrev pub Frames : Table → Result Spot VarFault → Type 0
@@ -37,6 +37,9 @@ frames_slot t h n None None = frames_named t h n (record { cell = t.next; own = 
 frames_slot t h n None (Some i) = frames_named t h n (record { cell = t.next; own = true })
 frames_slot t h n (Some s) None = (refl, refl)
 frames_slot t h n (Some s) (Some i) = frames_element t s.cell (get t.contents s.cell) i
+
+pub frames_locate : (t : Table) (h : Home) (n : Text) (index : Option Text) → Frames t (locate t h n index)
+frames_locate t h n index = frames_slot t h n (slot_of t.scopes h n) index
 
 frames_cell : (t : Table) (c : ℕ) (o : Option Content) → Frames t (set_cell t c o)
 frames_cell t c None = (refl, refl)

@@ -8,3 +8,9 @@ pub mod UndoLemmas
 pub mod ClearLemmas
 pub mod TiedLemmas
 pub mod AnswerLemmas
+pub mod LinkLemmas
+pub mod IndexLemmas
+pub mod CellLemmas
+pub mod LawLemmas
+pub mod ByteOrder
+pub mod OrderLemmas

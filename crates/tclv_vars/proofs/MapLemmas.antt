@@ -55,6 +55,10 @@ module _ {K : Type 0} {R : K → K → Ordering} (o : IsTotalOrder R) (only : Is
         | false ↦ λ t. refl
       ] refl)
 
+  pub removed_over : {X : Type 0} (m : FinMap R X) (k : K) (x : X) → remove (insert m k x) k ≡ remove m k
+  removed_over m k x = same_map o only _ _ (λ q. get-remove o (insert m k x) k q ∙ ap (λ v. cond (eq_by_cmp R q k) None v) (get-insert o m k x q)
+      ∙ twice (eq_by_cmp R q k) None (Some x) (get m q) ∙ sym (get-remove o m k q))
+
 module _ {X : Type 0} (m : Numbers X) (n : ℕ) (x : X) where
   pub number_there : get (insert m n x) n ≡ Some x
   number_there = get_inserted nat_cmp_total nat_cmp-IsAntisymmetric m n x
@@ -67,6 +71,9 @@ module _ {X : Type 0} (m : Numbers X) (n : ℕ) (x : X) where
 
   pub number_other : (q : ℕ) → q ≢ n → get (insert m n x) q ≡ get m q
   number_other = inserted_other nat_cmp_total nat_cmp-IsAntisymmetric m n x
+
+  pub number_over : remove (insert m n x) n ≡ remove m n
+  number_over = removed_over nat_cmp_total nat_cmp-IsAntisymmetric m n x
 
   pub number_removed : get m n ≡ None → remove (insert m n x) n ≡ m
   number_removed = removed_inserted nat_cmp_total nat_cmp-IsAntisymmetric m n x

@@ -15,8 +15,9 @@ use Rattle.tclv_vars.specs.declared.places.Home.{Home}
 use Rattle.tclv_vars.specs.declared.places.Home.TheVariants.{Local, Of}
 use Rattle.tclv_vars.specs.declared.places.Place.{Place}
 use Rattle.tclv_vars.specs.declared.faults.VarFault.{VarFault}
-use Rattle.tclv_vars.specs.Scoping.{Scoping, names_in, slot_of, home, pushed, at_start, at_frame, at_level, level_of, above}
+use Rattle.tclv_vars.specs.Scoping.{Scoping, names_in, slot_of, home, with_name, pushed, at_start, at_frame, at_level, level_of, above}
 use Rattle.tclv_vars.specs.Table.{Table, no_variables, Spot, new_name, new_array, named, new_element, locate_in, locate_element, locate_slot, locate, set_cell, set_spot, write, at_scopes, plain, elements_of, Gives}
+use Rattle.tclv_vars.specs.Links.{second_name}
 use Rattle.tclv_vars.specs.Sound.{Sound, IsNested}
 use Rattle.tclv_vars.proofs.ScopeLemmas.{tied, same_some, none_some, slot_cases, frame_end, IsNested-with_names, IsNested-at_frame, IsNested-pushed, above_level}
 
@@ -59,6 +60,28 @@ Sound-new_name t h n sound =
         | inl x ↦ let b = sound.inside a es i e c d in let f : s.cell ≡ t.next = ap (λ (z : Slot). z.cell) x.2 in omega (arith, b, f, same)
         | inr g ↦ sound.apart k m s a es i e g p c d same
       ];
+    }
+
+-- so does a name that becomes a second name of a cell that was given out
+pub Sound-second_name : (t : Table) (h : Home) (n : Text) (c : ℕ) → c < t.next → Sound t → Sound (second_name t h n c)
+Sound-second_name t h n c below sound =
+    let put : Slot = record { cell = c; own = false } in
+    let owns : (k : Home) (m : Text) (s : Slot) → slot_of (with_name t.scopes h n put) k m ≡ Some s → s.own ≡ true → slot_of t.scopes k m ≡ Some s =
+    λ k m s at p. elim (slot_cases t.scopes h n put k m s at) as (λ _. slot_of t.scopes k m ≡ Some s) [
+      | inl x ↦ absurd (true≢false (sym p ∙ ap (λ (z : Slot). z.own) x.2))
+      | inr g ↦ g
+    ] in
+    record {
+      nested = IsNested-with_names t.scopes h (insert (names_in t.scopes h) n put) sound.nested;
+      named = λ k m s at. elim (slot_cases t.scopes h n put k m s at) as (λ _. s.cell < t.next) [
+        | inl p ↦ let e : s.cell ≡ c = ap (λ (x : Slot). x.cell) p.2 in omega (arith, e, below)
+        | inr g ↦ sound.named k m s g
+      ];
+      given = sound.given;
+      inside = sound.inside;
+      texts = sound.texts;
+      distinct = λ k m j s o at bt p q. sound.distinct k m j s o (owns k m s at p) (owns k j o bt q) p q;
+      apart = λ k m s a es i e at p. sound.apart k m s a es i e (owns k m s at p) p;
     }
 
 -- names may go, and none may come

@@ -1,5 +1,6 @@
 -- The tables and the texts, where cells are cleared.
 use Rattle.std.proofs.Common.{◌≡◌, ◌≢◌, ℕ, ◌+◌, ◌-◌, ◌<◌, Bool, true, false, cond, not, ◌||◌, is_some, List, [], ◌∷◌, length, Option, None, Some, refl, sym, ap, ◌∙◌, nat_eq}
+use Rattle.std.specs.Prelude.{Result, Ok, Err}
 use Rattle.std.specs.Ordering.{nat_cmp}
 use Rattle.std.specs.Cmp.{unsigned_ties}
 use Rattle.std.specs.List.{list_any}
@@ -10,14 +11,16 @@ use Rattle.tclv_vars.specs.declared.parts.Content.{Content}
 use Rattle.tclv_vars.specs.declared.parts.Content.TheVariants.{Plain, Array}
 use Rattle.tclv_vars.specs.declared.places.Home.{Home}
 use Rattle.tclv_vars.specs.declared.places.Home.TheVariants.{Local, Of}
+use Rattle.tclv_vars.specs.declared.faults.VarFault.{VarFault}
 use Rattle.tclv_vars.specs.Scoping.{popped, last_names, slot_of}
 use Rattle.tclv_vars.specs.Table.{Table, at_scopes, holds_value}
-use Rattle.tclv_vars.specs.Clearing.{elements, gone, without_names, Apart, ended, Tied}
+use Rattle.tclv_vars.specs.Clearing.{elements, without, is_among, freed, gone, without_names, Apart, ended, Tied}
+use Rattle.tclv_vars.specs.Unset.{unset_at, left_at}
 use Rattle.tclv_vars.specs.Sound.{Sound}
 use Rattle.tclv_vars.proofs.EntryLemmas.{any_agrees}
 use Rattle.tclv_vars.proofs.ScopeLemmas.{tied, none_some, frame_taken, IsNested-popped}
 use Rattle.tclv_vars.proofs.SoundLemmas.{Sound-names}
-use Rattle.tclv_vars.proofs.ClearLemmas.{get-without_names}
+use Rattle.tclv_vars.proofs.ClearLemmas.{get-without, get-without_names}
 
 -- cells may go, and none may come
 pub Sound-fewer : (t : Table) (cs : Numbers Content) → ((a : ℕ) (x : Content) → get cs a ≡ Some x → get t.contents a ≡ Some x) → Sound t → Sound (record t { contents = cs })
@@ -68,6 +71,11 @@ Sound-ended t last inner sound = Sound-fewer (at_scopes t (popped t.scopes)) _ (
     by (Of n) m o h = h
     by (Local j) m o h = frame_taken t.scopes.frames (length t.scopes.frames - 1) j m o h
 
+-- a variable that is unset keeps the tables sound
+pub Sound-unset : (t : Table) (r : Result ℕ VarFault) → Sound t → Sound (unset_at t r)
+Sound-unset t (Err e) sound = sound
+Sound-unset t (Ok c) sound = Sound-fewer t (without t.contents (freed t.contents c)) (λ a x h. kept_some (not (is_among (freed t.contents c) a)) (get t.contents a) x (sym (get-without t.contents (freed t.contents c) a) ∙ h)) sound
+
 tied_kept : {X : Type 0} (b : Bool) (o : Option X) (x : Option Content) → is_some o ≡ holds_value x → is_some (cond b o None) ≡ holds_value (cond b x None)
 tied_kept true o x e = e
 tied_kept false o x e = refl
@@ -77,3 +85,11 @@ Tied-names t now texts left ns e f tie c =
     ap (λ m. is_some (get m c)) f ∙ ap is_some (get-without_names texts t.contents ns c)
     ∙ tied_kept (not (gone t.contents ns c)) (get texts c) (get t.contents c) (tie c)
     ∙ ap holds_value (sym (get-without_names t.contents t.contents ns c)) ∙ ap (λ (m : Numbers Content). holds_value (get m c)) (sym e)
+
+pub Tied-unset : {X : Type 0} (t now : Table) (texts left : Numbers X) (r : Result ℕ VarFault) → now ≡ unset_at t r → left ≡ left_at texts t.contents r → Tied t texts → Tied now left
+Tied-unset t now texts left (Err e) f g tie c = ap (λ m. is_some (get m c)) g ∙ tie c ∙ ap (λ (u : Table). holds_value (get u.contents c)) (sym f)
+Tied-unset t now texts left (Ok k) f g tie c =
+    let cs = freed t.contents k in
+    ap (λ m. is_some (get m c)) g ∙ ap is_some (get-without texts cs c)
+    ∙ tied_kept (not (is_among cs c)) (get texts c) (get t.contents c) (tie c)
+    ∙ ap holds_value (sym (get-without t.contents cs c)) ∙ ap (λ (u : Table). holds_value (get u.contents c)) (sym f)

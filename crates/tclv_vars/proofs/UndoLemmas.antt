@@ -15,10 +15,10 @@ use Rattle.tclv_vars.specs.declared.places.Missing.{Missing}
 use Rattle.tclv_vars.specs.declared.places.Missing.TheVariants as lacks
 use Rattle.tclv_vars.specs.declared.faults.VarFault.{VarFault}
 use Rattle.tclv_vars.specs.Scoping.{Scoping, home, names_in, name_frame, with_name, without_name, without_space, without_shared, has_names, slot_of}
-use Rattle.tclv_vars.specs.Table.{Table, Spot, locate_in, locate_element, locate_slot, set_cell, set_spot, plain}
+use Rattle.tclv_vars.specs.Table.{Table, Spot, locate_in, locate_element, locate_slot, locate, set_cell, set_spot, plain}
 use Rattle.tclv_vars.specs.Undo.{undone, missing, missing_in, missing_element, missing_slot, FreshWrite, emptied_element, emptied_in, emptied_slot, without_element, without_index, without_array, last_dropped}
 use Rattle.tclv_vars.specs.Sound.{Sound}
-use Rattle.tclv_vars.proofs.MapLemmas.{number_there, number_again, number_same, number_other, number_removed, text_removed}
+use Rattle.tclv_vars.proofs.MapLemmas.{number_there, number_again, number_same, number_other, number_over, number_removed, text_removed}
 use Rattle.tclv_vars.proofs.ScopeLemmas.{name_later, frame_names, home-with_names}
 use Rattle.tclv_vars.proofs.ValueLemmas.{not_given}
 
@@ -145,6 +145,72 @@ module _ (t : Table) (sound : Sound t) (h : Home) (n : Text) where
   undo_slot (Some s) e None = undo_plain s e (get t.contents s.cell) refl
   undo_slot (Some s) e (Some i) = undo_of s e i (get t.contents s.cell) refl
 
+-- something beyond the value was missing
+abbrev Lacks : Missing → Type 0
+Lacks lacks.Value = ⊥
+Lacks lacks.Element = Unit {0}
+Lacks lacks.Array = Unit {0}
+Lacks lacks.Name = Unit {0}
+Lacks lacks.Names = Unit {0}
+
+-- A spot that is fresh has the last number that was given out, and another one changed nothing.
+abbrev MadeLast : Table → Missing → Result Spot VarFault → Type 0
+MadeLast t lacked r = MatchResult r (λ s. (s.fresh ≡ true → (s.cell ≡ s.after.next - 1) × Lacks lacked) × (s.fresh ≡ false → s.after ≡ t)) (λ e. Unit {0})
+
+last_in : (t : Table) (c : ℕ) (es : Named ℕ) (i : Text) (o : Option ℕ) → MadeLast t (missing_in o) (locate_in t c es i o)
+last_in t c es i None = (λ _. (sym (one_less t.next), tt), λ h. absurd (true≢false h))
+last_in t c es i (Some e) = (λ h. absurd (true≢false (sym h)), λ _. refl)
+
+last_element : (t : Table) (c : ℕ) (o : Option Content) (i : Text) → MadeLast t (missing_element o i) (locate_element t c o i)
+last_element t c None i = (λ _. (sym (one_less t.next), tt), λ h. absurd (true≢false h))
+last_element t c (Some Plain) i = tt
+last_element t c (Some (Array es)) i = last_in t c es i (get es i)
+
+one_of_two : (n : ℕ) → n + 1 ≡ (n + 2) - 1
+one_of_two n = omega arith
+
+last_new : (t : Table) (h : Home) (n : Text) (b : Bool) (index : Option Text) → MadeLast t (if b then lacks.Name else lacks.Names) (locate_slot t h n None index)
+last_new t h n true None = (λ _. (sym (one_less t.next), tt), λ e. absurd (true≢false e))
+last_new t h n false None = (λ _. (sym (one_less t.next), tt), λ e. absurd (true≢false e))
+last_new t h n true (Some i) = (λ _. (one_of_two t.next, tt), λ e. absurd (true≢false e))
+last_new t h n false (Some i) = (λ _. (one_of_two t.next, tt), λ e. absurd (true≢false e))
+
+last_slot : (t : Table) (h : Home) (n : Text) (o : Option Slot) (index : Option Text) → MadeLast t (missing_slot t h o index) (locate_slot t h n o index)
+last_slot t h n None index = last_new t h n (has_names t.scopes h) index
+last_slot t h n (Some s) None = (λ e. absurd (true≢false (sym e)), λ _. refl)
+last_slot t h n (Some s) (Some i) = last_element t s.cell (get t.contents s.cell) i
+
+-- what the last cell holds doesn't matter where it is dropped
+plain_dropped : (u : Table) (c : ℕ) (s : Scoping) → c ≡ u.next - 1 → last_dropped (record (plain u c) { scopes = s }) ≡ last_dropped (record u { scopes = s })
+plain_dropped u c s e =
+    let contents = ap (λ k. remove (insert u.contents k Plain) (u.next - 1)) e ∙ number_over u.contents (u.next - 1) Plain in
+    λ i. record { scopes = s; contents = contents i; next = u.next - 1 }
+
+undone_plain : (lacked : Missing) (u : Table) (c : ℕ) (h : Home) (n : Text) (index : Option Text) → c ≡ u.next - 1 → Lacks lacked → undone lacked (plain u c) h n index ≡ undone lacked u h n index
+undone_plain lacks.Value u c h n index e l = absurd l
+undone_plain lacks.Element u c h n index e l = ap (λ v. without_element v (slot_of u.scopes h n) index) (plain_dropped u c u.scopes e)
+undone_plain lacks.Array u c h n index e l = ap (λ v. without_array v (slot_of u.scopes h n)) (plain_dropped u c u.scopes e)
+undone_plain lacks.Name u c h n None e l = plain_dropped u c (without_name u.scopes h n) e
+undone_plain lacks.Name u c h n (Some i) e l = ap last_dropped (plain_dropped u c (without_name u.scopes h n) e)
+undone_plain lacks.Names u c h n None e l = plain_dropped u c (without_space u.scopes h) e
+undone_plain lacks.Names u c h n (Some i) e l = ap last_dropped (plain_dropped u c (without_space u.scopes h) e)
+
+-- what was made to find a cell is taken away again
+module _ (t : Table) (h : Home) (n : Text) (index : Option Text) (s : Spot) (at : locate t h n index ≡ Ok s) where
+  made : (s.fresh ≡ true → (s.cell ≡ s.after.next - 1) × Lacks (missing_slot t h (slot_of t.scopes h n) index)) × (s.fresh ≡ false → s.after ≡ t)
+  made = subst (MadeLast t (missing_slot t h (slot_of t.scopes h n) index)) at (last_slot t h n (slot_of t.scopes h n) index)
+
+  pub undo_locate : Sound t → s.fresh ≡ true → undone (missing_slot t h (slot_of t.scopes h n) index) s.after h n index ≡ t
+  undo_locate sound f =
+      let spot : set_spot t (locate t h n index) ≡ Ok (record s { after = plain s.after s.cell }) = ap (set_spot t) at
+      ∙ ap (λ b. if b then Ok (record s { after = plain s.after s.cell }) else set_cell t s.cell (get t.contents s.cell)) f in
+      let back : s.fresh ≡ true → undone (missing_slot t h (slot_of t.scopes h n) index) (plain s.after s.cell) h n index ≡ t =
+      subst (Undoes t h n index (missing_slot t h (slot_of t.scopes h n) index)) spot (undo_slot t sound h n (slot_of t.scopes h n) refl index) in
+      sym (undone_plain (missing_slot t h (slot_of t.scopes h n) index) s.after s.cell h n index (made.0 f).0 (made.0 f).1) ∙ back f
+
+  pub same_locate : s.fresh ≡ false → s.after ≡ t
+  same_locate = made.1
+
 -- a write leaves where names are looked up
 abbrev Homes : Table → Place → Result Spot VarFault → Type 0
 Homes t at r = MatchResult r (λ s. home s.after.scopes at ≡ home t.scopes at) (λ e. Unit {0})
@@ -175,6 +241,12 @@ homes_spot t at (Ok s) k = elim (s.fresh) as (λ b. Homes t at (if b then Ok (re
   | true ↦ k
   | false ↦ homes_cell t at s.cell (get t.contents s.cell)
 ]
+
+pub homes_locate : (t : Table) (at : Place) (h : Home) (n : Text) (index : Option Text) (s : Spot) → locate t h n index ≡ Ok s → home s.after.scopes at ≡ home t.scopes at
+homes_locate t at h n index s e = subst (Homes t at) e (homes_slot t at h n (slot_of t.scopes h n) index)
+
+pub homes_write : (t : Table) (at : Place) (h : Home) (n : Text) (index : Option Text) (s : Spot) → set_spot t (locate t h n index) ≡ Ok s → home s.after.scopes at ≡ home t.scopes at
+homes_write t at h n index s e = subst (Homes t at) e (homes_spot t at (locate t h n index) (homes_slot t at h n (slot_of t.scopes h n) index))
 
 pub undo_write : (t : Table) (at : Place) (n : Text) (index : Option Text) (lacked : Missing) (now : Table) → FreshWrite t at n index lacked now → undone lacked now (home now.scopes at) n index ≡ t
 undo_write t at n index lacked now f =

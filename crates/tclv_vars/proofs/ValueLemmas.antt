@@ -40,7 +40,7 @@ plain_put cs c q = ap holds_value (get-insert nat_cmp_total cs c Plain q)
     ∙ ap (λ b. b || holds_value (get cs q)) (sym (unsigned_ties q c))
 
 -- finding a cell gives none a value and takes none away
-abbrev Kept : Table → Result Spot VarFault → Type 0
+abbrev pub Kept : Table → Result Spot VarFault → Type 0
 Kept t r = MatchResult r (λ s. ((c : ℕ) → has_value s.after c ≡ has_value t c) × (s.fresh ≡ true → has_value t s.cell ≡ false)) (λ e. Unit {0})
 
 kept_in : (t : Table) (c : ℕ) (es : Named ℕ) (i : Text) (o : Option ℕ) → get t.contents c ≡ Some (Array es) → Sound t → Kept t (locate_in t c es i o)
@@ -57,6 +57,9 @@ kept_slot t h n None None sound = (λ _. refl, λ _. no_value t t.next sound (om
 kept_slot t h n None (Some i) sound = (array_put t.contents t.next (insert empty i (t.next + 1)) (no_value t t.next sound (omega arith)), λ _. no_value t (t.next + 1) sound (omega arith))
 kept_slot t h n (Some s) None sound = (λ _. refl, λ h. absurd (true≢false (sym h)))
 kept_slot t h n (Some s) (Some i) sound = kept_element t s.cell (get t.contents s.cell) i refl sound
+
+pub Kept-locate : (t : Table) (h : Home) (n : Text) (index : Option Text) → Sound t → Kept t (locate t h n index)
+Kept-locate t h n index sound = kept_slot t h n (slot_of t.scopes h n) index sound
 
 -- a write gives one cell a value, and tells whether it had none
 abbrev pub Values : Table → Result Spot VarFault → Type 0

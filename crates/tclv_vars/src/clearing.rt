@@ -1,5 +1,6 @@
 // Cells that hold nothing any more.
 ghost use Rattle.std.specs.Prelude.{◌≡◌};
+ghost use Rattle.std.specs.FinMap as map;
 ghost use Rattle.tclv_names.specs.Keyed.{values_of};
 ghost use Rattle.tclv_value.specs.View.{KeepsMade};
 ghost use Rattle.tclv_vars.specs.Clearing.{without, freed, without_names, Apart};
@@ -38,11 +39,13 @@ pub fn clear(cells: &mut Numbered<Content>, store: &mut Store, cell: u64)
     }
 }
 
-/// Empties the cells that are the names' own, with those of their elements. Cells behind links stay.
-pub fn clear_names(cells: &mut Numbered<Content>, store: &mut Store, mut names: Names<Slot>)
-    requires apart { Apart cells.old.map names }
-    ensures cells { cells.new.map ≡ without_names cells.old.map cells.old.map names }
-    ensures texts { store.new.cells ≡ without_names store.old.cells cells.old.map names }
+/// Takes all names out, and empties the cells that are their own, with those of their elements. Cells
+/// behind links stay.
+pub fn clear_names(cells: &mut Numbered<Content>, store: &mut Store, names: &mut Names<Slot>)
+    requires apart { Apart cells.old.map names.old }
+    ensures cells { cells.new.map ≡ without_names cells.old.map cells.old.map names.old }
+    ensures texts { store.new.cells ≡ without_names store.old.cells cells.old.map names.old }
+    ensures names { names.new ≡ map.empty }
     ensures stack { store.new.stack ≡ store.old.stack }
     ensures keeps { KeepsMade store.old store.new }
 {

@@ -14,14 +14,20 @@
 
 mod clearing;
 mod faults;
+mod indices;
+pub mod laws;
+mod links;
 mod parts;
 mod places;
 mod scopes;
+mod spares;
 mod tables;
+mod unsetting;
 mod variables;
 
 pub use faults::VarFault;
-pub use places::{Missing, Place};
+pub use indices::Indices;
+pub use places::{Missing, Place, Root};
 pub use variables::Vars;
 
 #[cfg(test)]

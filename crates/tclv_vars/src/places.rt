@@ -9,6 +9,15 @@ pub enum Place {
     Space(u64),
 }
 
+/// Where the other name of a link stands.
+#[derive(Clone, Copy, Debug, PartialEq, Eq)]
+pub enum Root {
+    /// In the frame of this level, of the current frame and those that called it.
+    Level(usize),
+    /// In the namespace of this number.
+    Space(u64),
+}
+
 /// Where names stand.
 #[derive(Clone, Copy, Debug, PartialEq, Eq)]
 pub enum Home {

@@ -2,6 +2,7 @@
 
 use crate::parts::{Frame, Slot};
 use crate::places::{Home, Place};
+use crate::spares::Spares;
 use std::alloc::Global;
 use std::marker::Model;
 use tclv_names::{Names, Numbered};
@@ -13,6 +14,7 @@ pub struct Scopes {
     frames: Vec<Frame>,
     current: usize,
     spaces: Numbered<Names<Slot>>,
+    spares: Spares,
 }
 
 impl Model for Scopes {
@@ -51,6 +53,7 @@ impl Scopes {
             frames,
             current: 0,
             spaces: Numbered::new(alloc),
+            spares: Spares::new(alloc),
         })
     }
 
@@ -234,6 +237,9 @@ impl Scopes {
     }
 
     /// Puts a new frame on the others, which is current then. After `NoMemory` all is as before.
+    ///
+    /// It takes a name table of a frame that ended, if there is one. Room is made for the tables of
+    /// all frames, so that none has to be thrown away as they end.
     pub fn push(&mut self, space: u64, local: bool) -> Result<(), NoMemory>
         ensures pushed { OnOk result (self.new ≡ pushed self.old space local) }
         ensures refused { OnErr result (self.new ≡ self.old) }
@@ -242,12 +248,13 @@ impl Scopes {
         if level == usize::MAX {
             return Err(NoMemory);
         }
+        self.spares.reserve(self.frames.len())?;
         let frame = Frame {
             level: level + 1,
             caller: self.current,
             space,
             local,
-            names: Names::new(self.alloc),
+            names: self.spares.take(self.alloc),
         };
         let number = self.frames.len();
         let Ok(()) = self.frames.push(frame) else {
@@ -277,6 +284,14 @@ impl Scopes {
             Some(frame) => frame.names,
             None => Names::new(self.alloc),
         }
+    }
+
+    /// Keeps the emptied name table of a frame that ended, for the next one. Takes no memory.
+    pub fn keep(&mut self, names: Names<Slot>)
+        requires empty { names ≡ map.empty }
+        ensures { self.new ≡ self.old }
+    {
+        self.spares.keep(names);
     }
 
     /// Makes the frame of this number current.

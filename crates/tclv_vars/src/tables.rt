@@ -12,10 +12,10 @@ use tclv_value::Store;
 
 #[derive(Drop)]
 pub struct Tables {
-    alloc: Global,
-    scopes: Scopes,
-    cells: Numbered<Content>,
-    next: u64,
+    pub(crate) alloc: Global,
+    pub(crate) scopes: Scopes,
+    pub(crate) cells: Numbered<Content>,
+    pub(crate) next: u64,
 }
 
 impl Tables {
@@ -24,7 +24,7 @@ impl Tables {
     ghost use Rattle.std.specs.FinMap as map;
     ghost use Rattle.tclv_value.specs.View.{KeepsMade};
     ghost use Rattle.tclv_vars.specs.Clearing.{ended, without_names, Apart};
-    ghost use Rattle.tclv_vars.specs.Undo.{missing, missing_element, last_dropped, emptied_element, without_index, without_element, emptied_slot, without_array, cells_dropped, undone};
+    ghost use Rattle.tclv_vars.specs.Undo.{missing, missing_slot, missing_element, last_dropped, emptied_element, without_index, without_element, emptied_slot, without_array, cells_dropped, undone};
     ghost use Rattle.tclv_vars.specs.declared.faults.VarFault.TheVariants.{NoLevel};
     ghost use Rattle.tclv_vars.specs.Scoping.{home, slot_of, last_names, level_of, at_level, at_frame};
     ghost use Rattle.tclv_vars.specs.Table.{table_of, at_scopes, begun, no_variables, read, plain_at, read_element, locate, locate_element, set_cell, HoldsArray, elements_of, new_name, new_array, new_element, Gives, write};
@@ -167,8 +167,8 @@ impl Tables {
         }
     }
 
-    // The cell of a name and an index, which is made where there is none.
-    fn locate(
+    /// The cell of a name and an index, which is made where there is none, and whether it was made.
+    pub(crate) fn locate(
         &mut self,
         home: Home,
         name: &[u8],
@@ -249,8 +249,9 @@ impl Tables {
         ensures stack { store.new.stack ≡ store.old.stack }
         ensures keeps { KeepsMade store.old store.new }
     {
-        let names = self.scopes.pop_names();
-        clear_names(&mut self.cells, store, names);
+        let mut names = self.scopes.pop_names();
+        clear_names(&mut self.cells, store, &mut names);
+        self.scopes.keep(names);
     }
 
     /// Makes the frame of that level current, and gives the number of the one that was. `NoLevel`, and
@@ -289,7 +290,13 @@ impl Tables {
     pub fn missing(&self, at: Place, name: &[u8], index: Option<&[u8]>) -> Missing
         ensures { result ≡ missing (table_of self.now) at name.now (option_copied index.entry) }
     {
-        let home = self.scopes.home(at);
+        self.missing_in(self.scopes.home(at), name, index)
+    }
+
+    /// The same of a name that stands there.
+    pub(crate) fn missing_in(&self, home: Home, name: &[u8], index: Option<&[u8]>) -> Missing
+        ensures { result ≡ missing_slot (table_of self.now) home (slot_of self.now.scopes home name.now) (option_copied index.entry) }
+    {
         match self.scopes.slot(home, name) {
             None => {
                 if self.scopes.has_names(home) {
@@ -404,6 +411,19 @@ impl Tables {
         ensures { table_of self.new ≡ undone missing (table_of self.old) (home self.old.scopes at) name.now (option_copied index.entry) }
     {
         let home = self.scopes.home(at);
+        self.take_back_in(home, name, index, missing);
+    }
+
+    /// The same of a name that stands there.
+    pub(crate) fn take_back_in(
+        &mut self,
+        home: Home,
+        name: &[u8],
+        index: Option<&[u8]>,
+        missing: Missing,
+    )
+        ensures { table_of self.new ≡ undone missing (table_of self.old) home name.now (option_copied index.entry) }
+    {
         match missing {
             Missing::Value => self.take_value(home, name, index),
             Missing::Element => {

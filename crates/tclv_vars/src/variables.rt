@@ -6,12 +6,16 @@ ghost use Rattle.tclv_value.specs.View.{KeepsMade};
 ghost use Rattle.tclv_vars.specs.Clearing.{ended, without_names, Tied};
 ghost use Rattle.tclv_vars.specs.declared.faults.VarFault.TheVariants.{NoLevel};
 ghost use Rattle.tclv_vars.specs.Scoping.{last_names, level_of, space_of, is_local_at, at_level, at_frame};
+ghost use Rattle.tclv_vars.specs.Indices.{array_names, count_of};
+ghost use Rattle.tclv_vars.specs.Links.{linked};
 ghost use Rattle.tclv_vars.specs.Sound.{Sound};
+ghost use Rattle.tclv_vars.specs.Unset.{variable, is_held, unset, left_unset};
 ghost use Rattle.tclv_vars.specs.Undo.{missing, FreshWrite};
 ghost use Rattle.tclv_vars.specs.Table.{Table, no_variables, read, write, begun, at_scopes, has_value, Refuses};
 
 use crate::faults::VarFault;
-use crate::places::{Missing, Place};
+use crate::indices::Indices;
+use crate::places::{Missing, Place, Root};
 use crate::tables::Tables;
 use std::alloc::Global;
 use std::marker::Model;
@@ -109,6 +113,82 @@ impl Vars {
         ensures before { (t : Table) → FreshWrite t at name.now (option_copied index.entry) lacked self.old → self.new ≡ t }
     {
         self.tables.take_back(at, name, index, lacked);
+    }
+
+    /// Unsets a variable that is set, or an element that is. Its cell holds nothing then and loses its
+    /// text, and so do the cells of the elements of an array. Every name stays on its cell, links
+    /// too, and a write through any of them makes it a variable again.
+    ///
+    /// `NoVariable` and `NoElement` come exactly where it isn't set, `NotArray` for an element of a
+    /// variable that has a value. After a refusal all is as before. Takes no memory. Source: unset(n).
+    pub fn unset(
+        &mut self,
+        store: &mut Store,
+        at: Place,
+        name: &[u8],
+        index: Option<&[u8]>,
+    ) -> Result<(), VarFault>
+        requires name { IsText name.now }
+        requires index { IfSome (option_copied index) IsText }
+        ensures answer { result ≡ is_held (variable self.old at name.now (option_copied index.entry)) }
+        ensures unset { self.new ≡ unset self.old at name.now (option_copied index.entry) }
+        ensures texts { store.new.cells ≡ left_unset store.old.cells self.old at name.now (option_copied index.entry) }
+        ensures stack { store.new.stack ≡ store.old.stack }
+        ensures keeps { KeepsMade store.old store.new }
+        ensures tied { Tied self.old store.old.cells → Tied self.new store.new.cells }
+    {
+        self.tables.unset(store, at, name, index)
+    }
+
+    /// Makes the local name of the current frame a link to the other name, or to an element of it: a
+    /// second name of its cell. The other name stands where the root says. What of it isn't there is
+    /// made, an element's array too, and isn't set by that. A link that is linked anew moves, and a
+    /// local name that isn't set leaves its own cell.
+    ///
+    /// `NoLevel` comes exactly where the level is above the current one, else `LinkExists` where the
+    /// local name is a variable that is no link, else `NotArray` for an element of a variable that
+    /// has a value. After a refusal, `NoMemory` too, all is as before. Source: upvar(n), global(n).
+    pub fn link(
+        &mut self,
+        local: &[u8],
+        root: Root,
+        name: &[u8],
+        index: Option<&[u8]>,
+    ) -> Result<(), VarFault>
+        requires local { IsText local.now }
+        requires name { IsText name.now }
+        requires index { IfSome (option_copied index) IsText }
+        ensures linked { OnOk result (linked self.old local.now root name.now (option_copied index.entry) ≡ Ok self.new) }
+        ensures refused { IfErr result (Refuses (linked self.old local.now root name.now (option_copied index.entry))) }
+        ensures same { OnErr result (self.new ≡ self.old) }
+        ensures values { (c : ℕ) → has_value self.new c ≡ has_value self.old c }
+        ensures current { self.new.scopes.current ≡ self.old.scopes.current }
+        ensures frames { length self.new.scopes.frames ≡ length self.old.scopes.frames }
+    {
+        self.tables.link(local, root, name, index)
+    }
+
+    /// How many indices an array has: those of its elements that are set.
+    ///
+    /// `NoVariable` comes exactly where the variable isn't set, `NotArray` where it has a value. Takes
+    /// no memory. Source: array(n).
+    pub fn array_size(&self, at: Place, name: &[u8]) -> Result<usize, VarFault>
+        requires name { IsText name.now }
+        ensures answer { result ≡ count_of (array_names self.now at name.now) }
+    {
+        self.tables.array_size(at, name)
+    }
+
+    /// The indices of an array, sorted by code points: those of its elements that are set.
+    ///
+    /// `NoVariable` comes exactly where the variable isn't set, `NotArray` where it has a value.
+    /// Source: array(n).
+    pub fn array_names(&self, alloc: Global, at: Place, name: &[u8]) -> Result<Indices, VarFault>
+        requires name { IsText name.now }
+        ensures names { IfOk result (λ names. array_names self.now at name.now ≡ Ok names) }
+        ensures refused { IfErr result (Refuses (array_names self.now at name.now)) }
+    {
+        self.tables.array_names(alloc, at, name)
     }
 
     /// Pushes a frame, which is current then: of this namespace, and one level above the frame
