@@ -2,16 +2,17 @@
 use Rattle.std.proofs.Common.{◌≡◌, ℕ, zero, suc, ◌+◌, ◌-◌, ◌*◌, ◌<◌, ◌≤◌, Bool, true, false, cond, List, [], ◌∷◌, length, drop, get_or, refl, sym, ap, ◌∙◌, subst, arith}
 use Rattle.std.specs.Prelude.{codes}
 use Rattle.std.specs.Str.{chars, bytes_eq}
-use Rattle.std.proofs.lemmas.List.{drop_more, drop_all, get_or-drop, length-drop}
+use Rattle.std.proofs.lemmas.List.{drop_more, drop_all, get_or-drop, length-drop, drop-drop}
 use Rattle.tclv_text.specs.Texts.{IsText}
 use Rattle.tclv_text.specs.Globs.{matches}
 use Rattle.tclv_model.specs.declared.messages.MessageId.TheVariants.{SwitchPatternWithoutBody, NoBodyForPattern}
 use Rattle.tclv_model.specs.Rows.{Answer, Gives, and_then, says, wrong_count}
+use Rattle.tclv_model.specs.Values.{list_of}
 use Rattle.tclv_value.specs.Stacks.{top}
-use Rattle.tclv_ctl.specs.declared.switching.Matching.TheVariants.{Exact, Glob}
+use Rattle.tclv_reply.specs.declared.comparing.Matching.TheVariants.{Exact, Glob}
 use Rattle.tclv_ctl.specs.declared.switching.Leading.{Leading}
 use Rattle.tclv_ctl.specs.declared.switching.Leading.TheVariants.{Compare, NoCase, EndOfOptions, Unknown, Plain}
-use Rattle.tclv_ctl.specs.Switching.{Text, Clause, Manner, Choice, leading, option, options, clause_words, is_dash, next_body, pairs, ended, clauses, choice, plain, usage, row_switch}
+use Rattle.tclv_ctl.specs.Switching.{Text, SwitchClause, Manner, Choice, leading, option, options, clause_words, is_dash, next_body, pairs, ended, clauses, choice, plain, usage, row_switch, held_clauses, given_words, pushed_for, Asked}
 use Rattle.tclv_ctl.proofs.TextLemmas.{is_exact, is_glob, is_nocase, is_end}
 
 -- ---- options
@@ -82,7 +83,7 @@ came_to s cur m first at x y came same says is l =
 -- ---- the words behind the string
 
 -- the plan of these clauses, and the row behind the string with these words
-abbrev pub asking : Manner → Text → List Clause → Answer Choice
+abbrev pub asking : Manner → Text → List SwitchClause → Answer Choice
 asking m string cs = Gives (record { manner = m; string = string; clauses = cs })
 
 abbrev pub behind : Manner → Text → List Text → Answer Choice
@@ -113,6 +114,25 @@ words_at s from h =
 
 pub one_word : (s : List Text) (from : ℕ) → from + 1 ≡ length s → drop from s ≡ get_or s from [] ∷ []
 one_word s from e = drop_more s from [] (omega arith) ∙ ap (λ (t : List Text). get_or s from [] ∷ t) (drop_all (from + 1) s (omega arith))
+
+-- words of their own hold the clauses
+few_held : (words : List Text) → 2 ≤ length words → held_clauses words ≡ []
+few_held [] h = absurd (omega arith)
+few_held (w ∷ []) h = absurd (omega arith)
+few_held (w ∷ v ∷ ws) h = refl
+
+pub none_held : (s : List Text) (from : ℕ) → from + 2 ≤ length s → held_clauses (drop from s) ≡ []
+none_held s from h =
+    let long : 2 ≤ length (drop from s) = subst (λ (t : List Text). 2 ≤ length t) (sym (two_words s from h)) (omega arith) in
+    few_held (drop from s) long
+
+-- the elements of the list that holds them
+pub all_held : (s : List Text) (from : ℕ) (ts : List Text) → from + 1 ≡ length s → list_of (get_or s from []) ≡ Gives ts → held_clauses (drop from s) ≡ ts
+all_held s from ts e g = ap held_clauses (one_word s from e) ∙ ap given_words g
+
+-- what is pushed, by the words from the string on
+pub pushed_from : (asked : Answer Asked) (m : Manner) (s : List Text) (string : ℕ) → asked ≡ Gives (m, drop string s) → pushed_for asked ≡ held_clauses (drop (string + 1) s)
+pushed_from asked m s string e = ap pushed_for e ∙ ap held_clauses (drop-drop 1 string s)
 
 -- ---- how the words of clauses end
 

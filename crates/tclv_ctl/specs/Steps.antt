@@ -1,20 +1,9 @@
 -- What a step of a call answers, where it may leave further texts on the stack.
 use Rattle.std.specs.Prelude.{◌≡◌, ℕ, List, Result, IfOk, IfErr}
 use Rattle.tclv_model.specs.declared.data_commands.CmdFault.{CmdFault}
-use Rattle.tclv_model.specs.declared.data_commands.CmdFault.TheVariants as fault
 use Rattle.tclv_model.specs.Rows.{Answer, Gives}
 use Rattle.tclv_value.specs.View.{View}
-use Rattle.tclv_lists.specs.Replies.{Grows, IsRefusal}
-
--- The answer refuses, and its message and its error code are on top.
-pub record IsSaid {A : Type 0} (answer : Answer A) (kind : CmdFault) (old new : View) : Type 0 where
-  pub says : IsRefusal answer kind old.stack new.stack
-  pub cells : new.cells ≡ old.cells
-
--- A step that ended with this fault: the answer refuses so, or memory ran out, and all places that were there are as they were.
-abbrev pub Fails : {A : Type 0} → Answer A → CmdFault → View → View → Type 0
-Fails answer fault.NoMemory old new = Grows old new
-Fails answer kind old new = IsSaid answer kind old new
+use Rattle.tclv_reply.specs.Replies.{Grows, Refused}
 
 -- The answer gives what the value shows over the texts of the stack, where further texts may stand above those that were there.
 pub record IsShown {A T : Type 0} (answer : Answer A) (Shows : A → T → List (List ℕ) → Type 0) (value : T) (old new : View) : Type 0 where
@@ -25,5 +14,6 @@ pub record IsShown {A T : Type 0} (answer : Answer A) (Shows : A → T → List 
 
 -- a step that reads
 pub record Steps {A T : Type 0} (answer : Answer A) (Shows : A → T → List (List ℕ) → Type 0) (old new : View) (result : Result T CmdFault) : Type 0 where
+  pub grows : Grows old new
   pub gives : IfOk result (λ value. IsShown answer Shows value old new)
-  pub refuses : IfErr result (λ kind. Fails answer kind old new)
+  pub refuses : IfErr result (λ kind. Refused answer kind old.stack new.stack)

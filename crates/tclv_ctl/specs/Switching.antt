@@ -2,21 +2,22 @@
 use Rattle.std.specs.Prelude.{◌≡◌, ◌+◌, ◌<◌, ◌≤◌, ℕ, Bool, true, false, ◌||◌, if◌then◌else◌, List, [], ◌∷◌, map, length, drop, Option, Some, None, Result, IfOk, IfErr, slice_index_or, codes}
 use Rattle.std.specs.List.{All}
 use Rattle.std.specs.Str.{bytes_eq}
-use Rattle.tclv_text.specs.Globs.{folded, matches}
+use Rattle.tclv_text.specs.Globs.{matches}
 use Rattle.tclv_model.specs.declared.data_commands.CmdFault.{CmdFault}
 use Rattle.tclv_model.specs.declared.messages.MessageId.TheVariants.{BadOption, SwitchPatternWithoutBody, NoBodyForPattern}
-use Rattle.tclv_model.specs.Rows.{Answer, Gives, and_then, says, wrong_count}
+use Rattle.tclv_model.specs.Rows.{Answer, Gives, Refuses, and_then, says, wrong_count}
 use Rattle.tclv_model.specs.Values.{list_of}
 use Rattle.tclv_value.specs.View.{View}
 use Rattle.tclv_value.specs.Changes.{KeepsTexts}
-use Rattle.tclv_lists.specs.Replies.{IsRefused}
+use Rattle.tclv_reply.specs.Replies.{IsRefused}
 use Rattle.tclv_ctl.specs.Steps.{IsShown}
-use Rattle.tclv_ctl.specs.declared.switching.Matching.{Matching}
-use Rattle.tclv_ctl.specs.declared.switching.Matching.TheVariants.{Exact, Glob}
+use Rattle.tclv_reply.specs.Comparing.{fits_pattern}
+use Rattle.tclv_reply.specs.declared.comparing.Matching.{Matching}
+use Rattle.tclv_reply.specs.declared.comparing.Matching.TheVariants.{Exact, Glob}
 use Rattle.tclv_ctl.specs.declared.switching.Leading.{Leading}
 use Rattle.tclv_ctl.specs.declared.switching.Leading.TheVariants.{Compare, NoCase, EndOfOptions, Unknown, Plain}
-use Rattle.tclv_ctl.specs.declared.switching.Clause as place
-use Rattle.tclv_ctl.specs.declared.switching.Asked as seen
+use Rattle.tclv_ctl.specs.declared.switching.ClausePlaces.{ClausePlaces}
+use Rattle.tclv_ctl.specs.declared.switching.AskedPlaces.{AskedPlaces}
 use Rattle.tclv_ctl.specs.declared.switching.SwitchPlan.{SwitchPlan}
 
 abbrev pub Text : Type 0
@@ -28,14 +29,14 @@ pub record Manner : Type 0 where
   pub nocase : Bool
 
 -- a pattern and the body that belongs to it
-abbrev pub Clause : Type 0
-Clause = Text × Text
+abbrev pub SwitchClause : Type 0
+SwitchClause = Text × Text
 
 -- what `switch` is asked for
 pub record Choice : Type 0 where
   pub manner : Manner
   pub string : Text
-  pub clauses : List Clause
+  pub clauses : List SwitchClause
 
 -- ---- options
 
@@ -86,7 +87,7 @@ next_body (pattern ∷ []) = []
 next_body [] = []
 
 -- the clauses of such words: each pattern has the next body that is no `-`
-abbrev pub pairs : List Text → List Clause
+abbrev pub pairs : List Text → List SwitchClause
 pairs (pattern ∷ body ∷ words) = (pattern, next_body (pattern ∷ body ∷ words)) ∷ pairs words
 pairs (pattern ∷ []) = []
 pairs [] = []
@@ -98,8 +99,23 @@ ended (pattern ∷ []) rest = says SwitchPatternWithoutBody [] []
 ended (pattern ∷ body ∷ []) rest = if is_dash body then says NoBodyForPattern pattern [] else rest
 ended (pattern ∷ body ∷ next ∷ words) rest = ended (next ∷ words) rest
 
-abbrev pub clauses : List Text → Answer (List Clause)
+abbrev pub clauses : List Text → Answer (List SwitchClause)
 clauses words = ended words (Gives (pairs words))
+
+-- ---- what is pushed
+
+abbrev pub given_words : Answer (List Text) → List Text
+given_words (Gives words) = words
+given_words (Refuses kind message code) = []
+
+-- the elements of the one word behind the string that is the list of the clauses; none where each clause has words of its own
+abbrev pub held_clauses : List Text → List Text
+held_clauses (list ∷ []) = given_words (list_of list)
+held_clauses _ = []
+
+abbrev pub pushed_for : Answer Asked → List Text
+pushed_for (Gives asked) = held_clauses (drop 1 asked.1)
+pushed_for (Refuses kind message code) = []
 
 -- ---- the row
 
@@ -120,37 +136,29 @@ plain = record { matching = Exact; nocase = false }
 abbrev pub row_switch : Text → List Text → Answer Choice
 row_switch call words = and_then (options plain words) (λ asked. choice call asked.0 asked.1)
 
--- ---- the chosen clause
-
--- the pattern fits the string, by what is to match and by whether case counts for nothing
-abbrev pub fits_by : Matching → Bool → Text → Text → Bool
-fits_by Exact nocase pattern string = bytes_eq (folded nocase pattern) (folded nocase string)
-fits_by Glob nocase pattern string = matches nocase pattern string
-
-abbrev pub fits : Manner → Text → Text → Bool
-fits m pattern string = fits_by m.matching m.nocase pattern string
+-- ---- the clause that is chosen
 
 -- The clause, with these behind it, is the one for all other strings: `default` as the last pattern.
-abbrev pub is_default : Clause → List Clause → Bool
+abbrev pub is_default : SwitchClause → List SwitchClause → Bool
 is_default c [] = bytes_eq c.0 (codes "default")
 is_default c (d ∷ cs) = false
 
 -- the body of the first clause whose pattern fits the string or that is for all others
-abbrev pub chosen : Manner → Text → List Clause → Option Text
-chosen m string [] = None
-chosen m string (c ∷ cs) = if is_default c cs || fits m c.0 string then Some c.1 else chosen m string cs
+abbrev pub fitting_body : Manner → Text → List SwitchClause → Option Text
+fitting_body m string [] = None
+fitting_body m string (c ∷ cs) = if is_default c cs || fits_pattern m.matching m.nocase c.0 string then Some c.1 else fitting_body m string cs
 
 -- ---- plans
 
 -- the texts of a clause's places
-abbrev pub clause_in : List Text → place.Clause → Clause
+abbrev pub clause_in : List Text → ClausePlaces → SwitchClause
 clause_in stack c = (slice_index_or stack c.pattern [], slice_index_or stack c.body [])
 
-abbrev pub IsInside : List Text → place.Clause → Type 0
+abbrev pub IsInside : List Text → ClausePlaces → Type 0
 IsInside stack c = (c.pattern < length stack) × (c.body < length stack)
 
 -- the places of these clauses have their texts
-pub record AreClausesAt (cs : List Clause) (places : List place.Clause) (stack : List Text) : Type 0 where
+pub record AreClausesAt (cs : List SwitchClause) (places : List ClausePlaces) (stack : List Text) : Type 0 where
   pub inside : All (IsInside stack) places
   pub are : cs ≡ map (clause_in stack) places
 
@@ -160,7 +168,7 @@ plan_manner plan = record { matching = plan.matching; nocase = plan.nocase }
 
 -- what a plan's clauses choose, by the texts of its places
 abbrev pub chosen_by : SwitchPlan → List Text → Option Text
-chosen_by plan stack = chosen (plan_manner plan) (slice_index_or stack plan.string []) (map (clause_in stack) plan.clauses.items)
+chosen_by plan stack = fitting_body (plan_manner plan) (slice_index_or stack plan.string []) (map (clause_in stack) plan.clauses.items)
 
 -- The places of a plan have the texts of what is asked for.
 pub record IsPlanOf (asked : Choice) (plan : SwitchPlan) (stack : List Text) : Type 0 where
@@ -170,7 +178,7 @@ pub record IsPlanOf (asked : Choice) (plan : SwitchPlan) (stack : List Text) : T
   pub string : slice_index_or stack plan.string [] ≡ asked.string
   pub clauses : AreClausesAt asked.clauses plan.clauses.items stack
 
--- What the call answers whose row, at its n words, is this. Elements of the list of clauses may be left above the words. The cells keep their texts.
+-- What the call answers whose row, at its n words, is this. The elements of the list of clauses may stand above the words. The cells keep their texts.
 pub record Plans (row : Answer Choice) (n : ℕ) (old new : View) (result : Result SwitchPlan CmdFault) : Type 0 where
   pub gives : IfOk result (λ plan. IsShown row IsPlanOf plan old new)
   pub refuses : IfErr result (λ kind. IsRefused row kind n old new)
@@ -179,11 +187,11 @@ pub record Plans (row : Answer Choice) (n : ℕ) (old new : View) (result : Resu
 -- ---- steps
 
 -- the manner of the options that were read
-abbrev pub manner_of : seen.Asked → Manner
+abbrev pub manner_of : AskedPlaces → Manner
 manner_of asked = record { matching = asked.matching; nocase = asked.nocase }
 
 -- the options that were read, and the words from the string on, which are the top ones
-pub record IsAskedAt (a : Asked) (asked : seen.Asked) (stack : List Text) : Type 0 where
+pub record IsAskedAt (a : Asked) (asked : AskedPlaces) (stack : List Text) : Type 0 where
   pub within : asked.string + 2 ≤ length stack
   pub is : a ≡ (manner_of asked, drop asked.string stack)
 
@@ -193,8 +201,8 @@ pub record IsFrom (words : List Text) (from : ℕ) (stack : List Text) : Type 0 
   pub is : words ≡ drop from stack
 
 -- The answer gives the clauses that these places show.
-pub record ReadsClauses (answer : Answer (List Clause)) (places : List place.Clause) (old new : View) : Type 0 where
-  pub read : List Clause
+pub record ReadsClauses (answer : Answer (List SwitchClause)) (places : List ClausePlaces) (old new : View) : Type 0 where
+  pub read : List SwitchClause
   pub given : answer ≡ Gives read
   pub shown : AreClausesAt read places new.stack
   pub kept : KeepsTexts old new

@@ -4,39 +4,15 @@ ghost use Rattle.std.specs.List.{All};
 ghost use Rattle.std.specs.Option.{option_map};
 ghost use Rattle.std.specs.Str.{chars, bytes_eq};
 ghost use Rattle.tclv_text.specs.Texts.{IsText};
-ghost use Rattle.tclv_text.specs.Globs.{folded};
 ghost use Rattle.tclv_value.specs.Changes.{KeepsTexts};
-ghost use Rattle.tclv_ctl.specs.Switching.{fits, fits_by, plan_manner, chosen_by, IsInside};
+ghost use Rattle.tclv_reply.specs.Comparing.{fits_pattern};
+ghost use Rattle.tclv_ctl.specs.Switching.{chosen_by, IsInside};
 
-use crate::switching::{Matching, SwitchPlan};
-use crate::words::{is_word, is_word_in_any_case, make_word, word_at};
-use tclv_text::{NoMemory, glob_match};
+use crate::switching::SwitchPlan;
+use crate::words::is_word;
+use tclv_reply::{fits_pattern, make_word, word_at};
+use tclv_text::NoMemory;
 use tclv_value::Store;
-
-// Whether two texts are the same, with ASCII letters in lower case or as they are.
-fn is_same(one: &[u8], other: &[u8], nocase: bool) -> bool
-    requires one { IsText one.now }
-    requires other { IsText other.now }
-    ensures { result ≡ bytes_eq (folded nocase (chars one.now)) (folded nocase (chars other.now)) }
-{
-    if nocase {
-        is_word_in_any_case(one, other)
-    } else {
-        is_word(one, other)
-    }
-}
-
-// Whether a pattern fits a string.
-fn fits(matching: Matching, nocase: bool, pattern: &[u8], string: &[u8]) -> bool
-    requires pattern { IsText pattern.now }
-    requires string { IsText string.now }
-    ensures { result ≡ fits_by matching nocase (chars pattern.now) (chars string.now) }
-{
-    match matching {
-        Matching::Exact => is_same(pattern, string, nocase),
-        Matching::Glob => glob_match(pattern, string, nocase),
-    }
-}
 
 // Whether a text is `default`.
 fn is_default(text: &[u8]) -> bool
@@ -57,7 +33,7 @@ fn is_chosen(
     requires string { plan.now.string < length store.old.stack }
     ensures says { IfOk result (λ x. x ≡
         ((last && bytes_eq (slice_index_or store.old.stack pattern []) (codes "default"))
-        || fits (plan_manner plan.now) (slice_index_or store.old.stack pattern [])
+        || fits_pattern plan.now.matching plan.now.nocase (slice_index_or store.old.stack pattern [])
         (slice_index_or store.old.stack plan.now.string []))) }
     ensures kept { KeepsTexts store.old store.new }
 {
@@ -67,7 +43,7 @@ fn is_chosen(
     if last && is_default(text) {
         return Ok(true);
     }
-    Ok(fits(
+    Ok(fits_pattern(
         plan.matching,
         plan.nocase,
         text,

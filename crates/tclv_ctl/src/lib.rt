@@ -12,12 +12,8 @@
 #![tactic(auto)]
 
 mod choosing;
-mod replies;
 mod switching;
 mod words;
 
 pub use choosing::chosen_body;
-pub use switching::{Clause, Matching, SwitchPlan, switch_clauses};
-
-#[cfg(test)]
-mod tests;
+pub use switching::{ClausePlaces, SwitchPlan, switch_clauses};

@@ -1,40 +1,26 @@
 // The words of `switch`: its options, the string and the clauses.
-ghost use Rattle.std.specs.Prelude.{◌≡◌, ℕ, List, ◌+◌, ◌-◌, ◌<◌, ◌≤◌, [], ◌++◌, length, drop, false, OnOk, IfOk, IfErr, slice_index_or, ◌%◌, if◌then◌else◌};
-ghost use Rattle.std.specs.Result.{ForOk};
+ghost use Rattle.std.specs.Prelude.{◌≡◌, ℕ, List, ◌+◌, ◌-◌, ◌<◌, ◌≤◌, [], ◌++◌, length, drop, false, IfOk, IfErr, slice_index_or, ◌%◌, if◌then◌else◌};
 ghost use Rattle.std.specs.Str.{chars};
 ghost use Rattle.tclv_text.specs.Texts.{IsText};
-ghost use Rattle.tclv_text.specs.Elements.{elements};
-ghost use Rattle.tclv_model.specs.Values.{list_of};
 ghost use Rattle.tclv_value.specs.Changes.{KeepsTexts};
 ghost use Rattle.tclv_value.specs.Stacks.{top};
-ghost use Rattle.tclv_value.specs.View.{IsMade};
-ghost use Rattle.tclv_value.specs.declared.places.At.TheVariants.{Stack};
-ghost use Rattle.tclv_value.specs.Lists.{IsNoList};
-ghost use Rattle.tclv_lists.specs.Replies.{Grows, call_word};
-ghost use Rattle.tclv_ctl.specs.Steps.{Fails, Steps};
-ghost use Rattle.tclv_ctl.specs.Switching.{leading, options, plain, clause_words, is_dash, pairs, clauses, choice, row_switch, manner_of, IsAskedAt, IsFrom, AreClausesAt, ReadsClauses, IsPlanOf, Plans};
+ghost use Rattle.tclv_reply.specs.Replies.{Grows, Refused, call_word};
+ghost use Rattle.tclv_ctl.specs.Steps.{Steps};
+ghost use Rattle.tclv_ctl.specs.Switching.{leading, options, plain, clause_words, is_dash, pairs, clauses, choice, row_switch, manner_of, held_clauses, pushed_for, IsAskedAt, IsFrom, AreClausesAt, ReadsClauses, IsPlanOf, Plans};
 
-use crate::replies::{refuse, refuse_count, settle};
-use crate::words::{is_word, know_text, make_word, word_at};
-use tclv_lists::cmd_llength;
+use crate::words::is_word;
 use tclv_model::{CmdFault, MessageId};
-use tclv_text::{ListFault, NoMemory, glob_match};
-use tclv_value::{At, Store, ValueFault};
+use tclv_reply::{
+    Matching, make_word, push_elements, refuse_count, refuse_on, settle_refusal, word_at,
+};
+use tclv_text::{NoMemory, glob_match};
+use tclv_value::{At, Store};
 
 const USAGE: &str = " ?option ...? string ?pattern body ...? ?default body?";
 
-/// When a pattern of `switch` fits the string.
-#[derive(Clone, Copy, Debug, PartialEq, Eq)]
-pub enum Matching {
-    /// Where it is the same text.
-    Exact,
-    /// Where it fits as a glob pattern.
-    Glob,
-}
-
 /// A clause of `switch`, by places of the stack.
 #[derive(Clone, Copy, Debug, PartialEq, Eq)]
-pub struct Clause {
+pub struct ClausePlaces {
     /// Where the pattern is.
     pub pattern: usize,
     /// Where the body is that runs, which is no `-`.
@@ -51,7 +37,7 @@ pub struct SwitchPlan {
     /// Where the string is that is compared.
     pub string: usize,
     /// The clauses in order.
-    pub clauses: Vec<Clause>,
+    pub clauses: Vec<ClausePlaces>,
 }
 
 /// What a word says where an option may stand.
@@ -71,7 +57,7 @@ pub(crate) enum Leading {
 
 /// The options, and where the string is.
 #[derive(Clone, Copy, Debug, PartialEq, Eq)]
-pub(crate) struct Asked {
+pub(crate) struct AskedPlaces {
     matching: Matching,
     nocase: bool,
     string: usize,
@@ -108,11 +94,12 @@ fn leading_at(store: &mut Store, at: usize) -> Result<Leading, NoMemory>
 }
 
 // Reads the options among the words on top, which begin at a place.
-fn read_options(store: &mut Store, first: usize) -> Result<Asked, CmdFault>
+fn read_options(store: &mut Store, first: usize) -> Result<AskedPlaces, CmdFault>
     requires { first + 2 ≤ length store.old.stack }
-    ensures { Steps (options plain (drop first store.old.stack)) IsAskedAt store.old store.new result }
+    ensures steps { Steps (options plain (drop first store.old.stack)) IsAskedAt store.old store.new result }
+    ensures stack { IfOk result (λ _. store.new.stack ≡ store.old.stack) }
 {
-    let mut asked = Asked {
+    let mut asked = AskedPlaces {
         matching: Matching::Exact,
         nocase: false,
         string: first,
@@ -122,13 +109,13 @@ fn read_options(store: &mut Store, first: usize) -> Result<Asked, CmdFault>
             Leading::Compare(matching) => asked.matching = matching,
             Leading::NoCase => asked.nocase = true,
             Leading::EndOfOptions => {
-                return Ok(Asked {
+                return Ok(AskedPlaces {
                     string: at + 1,
                     ..asked
                 });
             }
-            Leading::Unknown => return Err(refuse(store, MessageId::BadOption, at)),
-            Leading::Plain => return Ok(Asked {
+            Leading::Unknown => return Err(refuse_on(store, MessageId::BadOption, at, "NONE")),
+            Leading::Plain => return Ok(AskedPlaces {
                 string: at,
                 ..asked
             }),
@@ -138,68 +125,21 @@ fn read_options(store: &mut Store, first: usize) -> Result<Asked, CmdFault>
     Ok(asked)
 }
 
-// Refuses a word, whose text is made, that is no list, as `llength` does.
-fn refuse_list(store: &mut Store, list: usize, why: ListFault) -> CmdFault
-    requires list { list < length store.old.stack }
-    requires made { IsMade store.old (Stack list) }
-    requires why { IsNoList (slice_index_or store.old.stack list []) why }
-    ensures { Fails {A = List (List ℕ)} (list_of (slice_index_or store.old.stack list []))
-        result store.old store.new }
-{
-    know_text(store, list);
-    match store.push_copy(At::Stack(list)) {
-        Ok(()) => match cmd_llength(store, 1) {
-            Ok(()) => unreachable!(),
-            Err(kind) => kind,
-        },
-        Err(_) => CmdFault::NoMemory,
-    }
-}
-
-// Pushes the elements of a list, of which there are so many.
-fn push_elements(store: &mut Store, list: usize, len: u64) -> Result<(), NoMemory>
-    requires list { list < length store.old.stack }
-    requires len { ForOk (elements (slice_index_or store.old.stack list [])) (λ ts. len ≡ length ts) }
-    ensures grows { Grows store.old store.new }
-    ensures pushed { OnOk result (ForOk (elements (slice_index_or store.old.stack list [])) (λ ts.
-        store.new.stack ≡ store.old.stack ++ ts)) }
-{
-    for k in 0..len {
-        match store.push_element(At::Stack(list), k) {
-            Ok(_found) => {}
-            Err(_fault) => return Err(NoMemory),
-        }
-    }
-    Ok(())
-}
-
-// Pushes the elements of the list that a word is.
-fn push_list(store: &mut Store, list: usize) -> Result<(), CmdFault>
-    requires { list < length store.old.stack }
-    ensures { Steps (list_of (slice_index_or store.old.stack list []))
-        (λ ts _ stack. stack ≡ store.old.stack ++ ts) store.old store.new result }
-{
-    make_word(store, list)?;
-    match store.list_len(At::Stack(list)) {
-        Ok(len) => Ok(push_elements(store, list, len)?),
-        Err(ValueFault::NotList(why)) => Err(refuse_list(store, list, why)),
-        Err(_) => Err(CmdFault::NoMemory),
-    }
-}
-
 // Where the words of the clauses begin, which are the top ones then: the words behind the string, or
 // the elements of the one word that is there.
 fn clause_words(store: &mut Store, string: usize) -> Result<usize, CmdFault>
     requires { string + 2 ≤ length store.old.stack }
-    ensures { Steps (clause_words (drop (string + 1) store.old.stack)) IsFrom
+    ensures steps { Steps (clause_words (drop (string + 1) store.old.stack)) IsFrom
         store.old store.new result }
+    ensures stack { IfOk result (λ _. store.new.stack ≡
+        store.old.stack ++ held_clauses (drop (string + 1) store.old.stack)) }
 {
     let height = store.height();
     let first = string + 1;
     if height - first > 1 {
         return Ok(first);
     }
-    push_list(store, first)?;
+    push_elements(store, At::Stack(first))?;
     Ok(height)
 }
 
@@ -229,7 +169,7 @@ fn body_at(store: &mut Store, at: usize, behind: usize) -> Result<usize, NoMemor
 
 // The clauses of the top words, which begin at a place: patterns and bodies in turn, and the last
 // body is no `-`.
-fn pair_clauses(store: &mut Store, from: usize) -> Result<Vec<Clause>, NoMemory>
+fn pair_clauses(store: &mut Store, from: usize) -> Result<Vec<ClausePlaces>, NoMemory>
     requires some { from < length store.old.stack }
     requires even { (length store.old.stack - from) % 2 ≡ 0 }
     requires ended { is_dash (slice_index_or store.old.stack (length store.old.stack - 1) []) ≡ false }
@@ -243,38 +183,46 @@ fn pair_clauses(store: &mut Store, from: usize) -> Result<Vec<Clause>, NoMemory>
     for count in 0..(height - from) / 2 {
         let pattern = height - 2 * count - 2;
         body = body_at(store, pattern + 1, body)?;
-        found.push(Clause { pattern, body })?;
+        found.push(ClausePlaces { pattern, body })?;
     }
     found.reverse();
     Ok(found)
 }
 
 // Reads the clauses of the top words, which begin at a place.
-fn read_clauses(store: &mut Store, from: usize) -> Result<Vec<Clause>, CmdFault>
+fn read_clauses(store: &mut Store, from: usize) -> Result<Vec<ClausePlaces>, CmdFault>
     requires { from ≤ length store.old.stack }
+    ensures grows { Grows store.old store.new }
     ensures gives { IfOk result (λ found. ReadsClauses (clauses (drop from store.old.stack)) found.items store.old store.new) }
     ensures refuses { IfErr result (λ kind.
-        Fails (clauses (drop from store.old.stack)) kind store.old store.new) }
+        Refused (clauses (drop from store.old.stack)) kind store.old.stack store.new.stack) }
 {
     let height = store.height();
     if height == from {
         return Ok(Vec::new(store.allocator()));
     }
     if (height - from) % 2 == 1 {
-        return Err(refuse(store, MessageId::SwitchPatternWithoutBody, height - 1));
+        return Err(refuse_on(
+            store,
+            MessageId::SwitchPatternWithoutBody,
+            height - 1,
+            "NONE",
+        ));
     }
     if is_dash(store, height - 1)? {
-        return Err(refuse(store, MessageId::NoBodyForPattern, height - 2));
+        return Err(refuse_on(store, MessageId::NoBodyForPattern, height - 2, "NONE"));
     }
     let found = pair_clauses(store, from)?;
     Ok(found)
 }
 
 // Reads the clauses behind the string.
-fn read_behind(store: &mut Store, asked: Asked) -> Result<SwitchPlan, CmdFault>
+fn read_behind(store: &mut Store, asked: AskedPlaces) -> Result<SwitchPlan, CmdFault>
     requires { asked.string + 2 ≤ length store.old.stack }
-    ensures { (call : List ℕ) → Steps (choice call (manner_of asked) (drop asked.string store.old.stack))
+    ensures steps { (call : List ℕ) → Steps (choice call (manner_of asked) (drop asked.string store.old.stack))
         IsPlanOf store.old store.new result }
+    ensures stack { IfOk result (λ _. store.new.stack ≡
+        store.old.stack ++ held_clauses (drop (asked.string + 1) store.old.stack)) }
 {
     let from = clause_words(store, asked.string)?;
     let clauses = read_clauses(store, from)?;
@@ -289,8 +237,10 @@ fn read_behind(store: &mut Store, asked: Asked) -> Result<SwitchPlan, CmdFault>
 // Reads the words on top, which begin at a place.
 fn read_words(store: &mut Store, first: usize) -> Result<SwitchPlan, CmdFault>
     requires { first + 2 ≤ length store.old.stack }
-    ensures { (call : List ℕ) → Steps (row_switch call (drop first store.old.stack))
+    ensures steps { (call : List ℕ) → Steps (row_switch call (drop first store.old.stack))
         IsPlanOf store.old store.new result }
+    ensures stack { IfOk result (λ _. store.new.stack ≡
+        store.old.stack ++ pushed_for (options plain (drop first store.old.stack))) }
 {
     let asked = read_options(store, first)?;
     read_behind(store, asked)
@@ -298,8 +248,9 @@ fn read_words(store: &mut Store, first: usize) -> Result<SwitchPlan, CmdFault>
 
 /// Reads the top `n` texts as the words of `switch` behind the word of the call, which lies below
 /// them: options, the string, and clauses, each a pattern and a body. One word behind the string is
-/// the list of them, and its elements are then pushed above the words. A body `-` is the next body
-/// that is no `-`. On `Ok` the words stay, and the plan's places have the texts that it is about.
+/// the list of them, and its elements, and nothing else, are then pushed above the words. A body `-`
+/// is the next body that is no `-`. On `Ok` the words stay, and the plan's places have the texts that
+/// it is about.
 ///
 /// - `WrongArgs` comes where there are fewer than two words.
 /// - `Message` comes, from the left, for an unknown option, for one word behind the string that is
@@ -310,16 +261,18 @@ fn read_words(store: &mut Store, first: usize) -> Result<SwitchPlan, CmdFault>
 /// words follow, and of `-exact` and `-glob` the later one counts. (Tcl: switch(n).)
 pub fn switch_clauses(store: &mut Store, n: usize) -> Result<SwitchPlan, CmdFault>
     requires { n + 1 ≤ length store.old.stack }
-    ensures { Plans (row_switch (call_word n store.old.stack) (top n store.old.stack)) n
+    ensures plans { Plans (row_switch (call_word n store.old.stack) (top n store.old.stack)) n
         store.old store.new result }
+    ensures stack { IfOk result (λ _. store.new.stack ≡
+        store.old.stack ++ pushed_for (options plain (top n store.old.stack))) }
 {
     let height = store.height();
     if n < 2 {
         let kind = refuse_count(store, height - n - 1, USAGE);
-        return Err(settle(store, n, height, kind));
+        return Err(settle_refusal(store, n, height, kind));
     }
     match read_words(store, height - n) {
         Ok(plan) => Ok(plan),
-        Err(kind) => Err(settle(store, n, height, kind)),
+        Err(kind) => Err(settle_refusal(store, n, height, kind)),
     }
 }

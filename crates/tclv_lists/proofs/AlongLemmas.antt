@@ -24,15 +24,13 @@ use Rattle.tclv_value.specs.Stacks.{top, under}
 use Rattle.tclv_value.specs.Changes.{Pushes, Puts}
 use Rattle.tclv_value.specs.Paths.{PathFlaw, NoPlace, and_then as then_path, list_or, place_or, step, put_at, set_path}
 use Rattle.tclv_value.specs.Lists.{replaced}
-use Rattle.tclv_lists.specs.Replies.{Grows, Reads, Refused, variable_of}
-use Rattle.tclv_lists.specs.Paths.{within, place_within, put_along, forms_of, checked, Reaches}
-use Rattle.tclv_lists.specs.Variables.{both, taken, IsStored, Stores}
-use Rattle.tclv_lists.proofs.ReplyLemmas.{grows_trans, grows_pushed, refused_on, refused_after}
-use Rattle.tclv_lists.proofs.WordLemmas.{no_words}
+use Rattle.tclv_reply.specs.Replies.{Grows, Reads, Refused, variable_of}
+use Rattle.tclv_reply.specs.Places.{within, place_within}
+use Rattle.tclv_lists.specs.Paths.{put_along, forms_of, checked, Reaches}
+use Rattle.tclv_reply.specs.Variables.{both}
+use Rattle.tclv_lists.specs.Variables.{taken, IsStored, Stores}
+use Rattle.tclv_reply.proofs.Laws.{grows_trans, grows_pushed, refused_on, refused_after, no_words, cells_text, list_known, get_some, cell_there, cell_text}
 use Rattle.tclv_lists.proofs.StoredLemmas.{stores_refused}
-use Rattle.tclv_lists.proofs.StepLemmas.{cells_text}
-use Rattle.tclv_lists.proofs.VariableLemmas.{list_known, cell_there, cell_text}
-use Rattle.tclv_lists.proofs.PathLemmas.{get_some}
 
 -- a step that went well, and what followed it
 came_through : {A B : Type 0} (r : Result A PathFlaw) (f : A → Result B PathFlaw) (z : B) → then_path r f ≡ Ok z → (a : A) × ((r ≡ Ok a) × (f a ≡ Ok z))

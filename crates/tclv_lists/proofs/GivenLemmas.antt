@@ -4,17 +4,15 @@ use Rattle.std.specs.Prelude.{ℤ, pos, negsuc, slice_get}
 use Rattle.std.specs.Option.{option_map, ForSome}
 use Rattle.std.proofs.lemmas.List.{drop_more, drop_at, length-drop, length-take, length-append, take_all, take-take, get_or-take, get_or-drop}
 use Rattle.std.proofs.lemmas.Bool.{ltb-false}
-use Rattle.tclv_model.specs.declared.data_commands.CmdFault.{CmdFault}
-use Rattle.tclv_model.specs.declared.data_commands.CmdFault.TheVariants as fault
 use Rattle.tclv_model.specs.Rows.{Answer, RowAnswer, Gives, Refuses, and_then}
-use Rattle.tclv_lists.specs.Replies.{Refused, Tells}
-use Rattle.tclv_lists.specs.Paths.{element, place_among}
+use Rattle.tclv_lists.specs.Paths.{element}
+use Rattle.tclv_reply.specs.Places.{place_among}
 use Rattle.tclv_lists.specs.declared.sorting.Key.{Key}
 use Rattle.tclv_lists.specs.declared.sorting.Order.{Order}
 use Rattle.tclv_lists.specs.declared.sorting.Entry.{Entry}
 use Rattle.tclv_lists.specs.Sorting.{is_given, given, in_order, entry_before, pair_before, text_in, pair_of, sorted_texts, order_options, sorted_of, row_lsort}
 use Rattle.tclv_lists.proofs.SortLemmas.{in_order_mapped}
-use Rattle.tclv_lists.proofs.PathLemmas.{word_kept}
+use Rattle.tclv_reply.proofs.Laws.{word_kept}
 
 module _ {X : Type 0} (before : X → X → Bool) where
   pub given_plain : (es : List X) (k : ℕ) (unique : Bool) → unique ≡ false → k < length es → is_given unique before (drop k es) ≡ true
@@ -93,12 +91,6 @@ past_at ts k false e h = get_past ts k (ltb-false k (length ts) e)
 pub element_none : (ts : List (List ℕ)) (z : ℤ) → place_among (length ts) z ≡ None → element ts z ≡ None
 element_none ts (pos k) h = past_at ts k (ltb k (length ts)) refl h
 element_none ts (negsuc k) h = refl
-
--- a refusal that was told
-pub told_refused : {A : Type 0} (answer : Answer A) (message code : List ℕ) (kind : CmdFault) (old new : List (List ℕ)) → answer ≡ Refuses fault.Message message code → Tells fault.Message kind (message ∷ code ∷ []) old new → Refused answer kind old new
-told_refused answer message code fault.NoMemory old new e t = tt
-told_refused answer message code fault.WrongArgs old new e t = let no = t.same in absurd (cc)
-told_refused answer message code fault.Message old new e t = record { message = message; code = code; refused = e; top = t.top }
 
 -- what stands above a stack
 pub part_above : (q new us : List (List ℕ)) (from to : ℕ) → new ≡ q ++ us → from ≡ length q → to ≡ length new → take (to - from) (drop from new) ≡ us

@@ -1,10 +1,4 @@
-pub mod StackLemmas
-pub mod ReplyLemmas
-pub mod TextLemmas
-pub mod ShownLemmas
-pub mod WordLemmas
 pub mod RowLemmas
-pub mod StepLemmas
 pub mod ClipLemmas
 pub mod VariableLemmas
 pub mod MakingLemmas
@@ -17,9 +11,7 @@ pub mod JoinLemmas
 pub mod SplitLemmas
 pub mod SortLemmas
 pub mod KeyLemmas
-pub mod PointLemmas
 pub mod OptionLemmas
-pub mod OptionSteps
 pub mod SearchLemmas
 pub mod GivenLemmas
 pub mod RemoveLemmas

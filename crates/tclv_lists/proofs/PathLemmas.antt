@@ -1,41 +1,19 @@
 -- Laws of paths of indices.
-use Rattle.std.proofs.Common.{◌≡◌, ◌≢◌, ℕ, zero, suc, ◌+◌, ◌-◌, ◌<◌, ◌≤◌, Bool, true, false, cond, ltb, List, [], ◌∷◌, ◌++◌, length, take, drop, get_or, Option, Some, None, Result, Ok, Err, refl, sym, ap, ◌∙◌, subst, arith}
+use Rattle.std.proofs.Common.{◌≡◌, ◌≢◌, ℕ, ◌+◌, ◌-◌, ◌<◌, ◌≤◌, Bool, true, false, cond, ltb, List, [], ◌∷◌, ◌++◌, length, take, drop, get_or, Option, Some, None, Result, Ok, Err, refl, sym, ap, ◌∙◌, subst, arith}
 use Rattle.std.specs.Prelude.{ℤ, pos, negsuc, IsOkAnd, slice_get, option_to_list}
 use Rattle.std.specs.Option.{option_map_or}
-use Rattle.std.specs.Result.{ForOk, result_unwrap_or}
-use Rattle.std.specs.Str.{chars, encode_utf8_all}
-use Rattle.tclv_text.specs.declared.lists.ListFault.{ListFault}
-use Rattle.tclv_text.specs.declared.lists.ListFault.TheVariants as list
-use Rattle.tclv_text.specs.Lists.{ListFlaw, MissingBrace, MissingQuote, TextAfterBrace, TextAfterQuote}
-use Rattle.tclv_value.specs.Lists.{IsNoList}
-use Rattle.std.proofs.lemmas.List.{drop_more, take_more, append_assoc, get_or_append_left, length-append, length-take, length-drop, drop_at, take_all}
+use Rattle.std.specs.Result.{result_unwrap_or}
+use Rattle.tclv_text.specs.Lists.{ListFlaw}
+use Rattle.std.proofs.lemmas.List.{drop_more, length-append, length-take, length-drop, drop_at, take_all}
 use Rattle.std.proofs.lemmas.Bool.{ltb-true}
 use Rattle.tclv_text.specs.Elements.{elements}
-use Rattle.tclv_model.specs.Rows.{Answer, RowAnswer, Gives, and_then}
+use Rattle.tclv_model.specs.Rows.{RowAnswer, Gives, and_then}
 use Rattle.tclv_model.specs.Values.{list_of, place_of}
 use Rattle.tclv_value.specs.View.{View, StaysMade}
-use Rattle.tclv_lists.specs.Replies.{Grows, Reads}
-use Rattle.tclv_lists.specs.Paths.{path_of, checked, element, element_at, place_among, StepsInto, IsPathAt}
-use Rattle.tclv_lists.proofs.ReplyLemmas.{grows_trans}
-use Rattle.tclv_lists.proofs.StepLemmas.{Went}
-use Rattle.tclv_lists.proofs.VariableLemmas.{list_known}
-
--- the words from a place on: the one there, and those behind it
-pub words_step : (s : List (List ℕ)) (at to : ℕ) → at < to → to ≤ length s → take (to - at) (drop at s) ≡ get_or s at [] ∷ take (to - (at + 1)) (drop (at + 1) s)
-words_step s at to h l =
-    let k : to - at ≡ suc (to - (at + 1)) = omega arith in
-    ap (λ m. take m (drop at s)) k ∙ ap (take (suc (to - (at + 1)))) (drop_more s at [] (omega arith))
-
-pub word_kept : (s cur more : List (List ℕ)) (at : ℕ) → cur ≡ s ++ more → at < length s → get_or cur at [] ≡ get_or s at []
-word_kept s cur more at e h = ap (λ t. get_or t at []) e ∙ get_or_append_left s more [] at h
-
-pub went_as : {A : Type 0} {row rest : Answer A} {old mid : View} (then : Answer A) → Went row rest old mid → rest ≡ then → Went row then old mid
-went_as then w e = record { is = w.is ∙ e; grows = w.grows; same = w.same }
-
-pub get_some : (ts : List (List ℕ)) (k : ℕ) → k < length ts → slice_get ts k ≡ Some (get_or ts k [])
-get_some [] k h = absurd (omega arith)
-get_some (t ∷ ts) zero h = refl
-get_some (t ∷ ts) (suc k) h = get_some ts k (omega arith)
+use Rattle.tclv_reply.specs.Replies.{Grows, Reads}
+use Rattle.tclv_lists.specs.Paths.{path_of, checked, element, element_at, StepsInto, IsPathAt}
+use Rattle.tclv_reply.specs.Places.{place_among}
+use Rattle.tclv_reply.proofs.Laws.{grows_trans, get_some, list_known}
 
 among : (b : Bool) (j k : ℕ) → cond b (Some j) None ≡ Some k → (b ≡ true) × (j ≡ k)
 among true j k e = (refl, cc)
@@ -75,37 +53,17 @@ module _ (t i u j : List ℕ) (old one two new : View) (len k : ℕ) (found : Op
         refuses = tt;
       }
 
--- one more element is pushed
-pub more_pushed : (r : Result (List (List ℕ)) ListFlaw) (s cur new : List (List ℕ)) (k len : ℕ) → k < len → ForOk r (λ ts. len ≡ length ts) → ForOk r (λ ts. cur ≡ s ++ take k ts) → IsOkAnd r (λ ts. new ≡ cur ++ option_to_list (slice_get ts k)) → ForOk r (λ ts. new ≡ s ++ take (k + 1) ts)
-more_pushed r s cur new k len h n inv pushed ts e =
-    let inside : k < length ts = omega (arith, n ts e) in
-    let p : new ≡ cur ++ option_to_list (slice_get ts k) = subst (λ x. IsOkAnd x (λ us. new ≡ cur ++ option_to_list (slice_get us k))) e pushed in
-    p ∙ ap (λ o. cur ++ option_to_list o) (get_some ts k inside) ∙ ap (λ t. t ++ get_or ts k [] ∷ []) (inv ts e) ∙ append_assoc s (take k ts) (get_or ts k [] ∷ []) ∙ ap (λ t. s ++ t) (sym (take_more ts k [] inside))
-
-pub grows_element : (r : Result (List (List ℕ)) ListFlaw) (cur new : View) (k : ℕ) → IsOkAnd r (λ ts. new.stack ≡ cur.stack ++ option_to_list (slice_get ts k)) → new.cells ≡ cur.cells → StaysMade cur new → Grows cur new
-grows_element (Ok ts) cur new k p c s = record { more = option_to_list (slice_get ts k); stack = p; cells = c; stays = s }
-grows_element (Err f) cur new k p c s = absurd p
-
 -- the elements of a word are its path
-pub named_list : (b : Bool) (r : Result (List (List ℕ)) ListFlaw) (t : List ℕ) (len : ℕ) (mid new : List (List ℕ)) (from to : ℕ) → b ≡ false → IsOkAnd r (λ ts. len ≡ length ts) → ForOk r (λ ts. new ≡ mid ++ ts) → from ≡ length mid → to ≡ length new → IsPathAt (cond b (t ∷ []) (result_unwrap_or r (t ∷ []))) new (from, to)
-named_list true r t len mid new from to e n p f g = absurd (cc)
-named_list false (Err flaw) t len mid new from to e n p f g = absurd n
-named_list false (Ok ts) t len mid new from to e n p f g =
-    let is = p ts refl in
-    let long : length new ≡ length mid + length ts = omega (arith, ap length is, length-append mid ts) in
-    let count : length ts ≤ to - from = omega arith in record {
+pub named_list : (b : Bool) (r : Result (List (List ℕ)) ListFlaw) (t : List ℕ) (items mid new : List (List ℕ)) (from to : ℕ) → b ≡ false → r ≡ Ok items → new ≡ mid ++ items → from ≡ length mid → to ≡ length new → IsPathAt (cond b (t ∷ []) (result_unwrap_or r (t ∷ []))) new (from, to)
+named_list true r t items mid new from to e n p f g = absurd (cc)
+named_list false r t items mid new from to e n p f g =
+    let path : result_unwrap_or r (t ∷ []) ≡ items = ap (λ x. result_unwrap_or x (t ∷ [])) n in
+    let long : length new ≡ length mid + length items = omega (arith, ap length p, length-append mid items) in
+    let count : length items ≤ to - from = omega arith in record {
       order = omega arith;
       within = omega arith;
-      is = ap (λ k. take (to - from) (drop k new)) f ∙ ap (λ q. take (to - from) (drop (length mid) q)) is ∙ ap (take (to - from)) (drop_at mid ts (length mid) refl) ∙ take_all (to - from) ts count;
+      is = ap (λ k. take (to - from) (drop k new)) f ∙ ap (λ q. take (to - from) (drop (length mid) q)) p ∙ ap (take (to - from)) (drop_at mid items (length mid) refl) ∙ take_all (to - from) items count ∙ sym path;
     }
-
--- a text that is no list has no elements
-pub no_elements : (t : List ℕ) (why : ListFault) → chars (encode_utf8_all t) ≡ t → IsNoList t why → (f : ListFlaw) × (elements t ≡ Err f)
-no_elements t list.OpenBrace e h = (MissingBrace, ap elements (sym e) ∙ h.read)
-no_elements t list.OpenQuote e h = (MissingQuote, ap elements (sym e) ∙ h.read)
-no_elements t (list.AfterBrace n) e h = (TextAfterBrace (chars (drop n (encode_utf8_all t))), ap elements (sym e) ∙ h.2.read)
-no_elements t (list.AfterQuote n) e h = (TextAfterQuote (chars (drop n (encode_utf8_all t))), ap elements (sym e) ∙ h.2.read)
-no_elements t list.NoMemory e h = absurd h
 
 pub named_word : (b : Bool) (r : Result (List (List ℕ)) ListFlaw) (f : ListFlaw) (s : List (List ℕ)) (word end : ℕ) → r ≡ Err f → word < length s → end ≡ word + 1 → IsPathAt (cond b (get_or s word [] ∷ []) (result_unwrap_or r (get_or s word [] ∷ []))) s (word, end)
 named_word b r f s word end e h n =
@@ -126,3 +84,8 @@ pub words_path : (s : List (List ℕ)) (from to : ℕ) → from ≤ to → to �
 words_path s from to h l ne =
     let count : length (take (to - from) (drop from s)) ≡ to - from = omega (arith, length-take (to - from) (drop from s), length-drop from s) in
     record { order = h; within = l; is = sym (path_itself (take (to - from) (drop from s)) (λ e. ne (sym count ∙ e))) }
+
+-- an element is pushed
+pub grows_element : (r : Result (List (List ℕ)) ListFlaw) (cur new : View) (k : ℕ) → IsOkAnd r (λ ts. new.stack ≡ cur.stack ++ option_to_list (slice_get ts k)) → new.cells ≡ cur.cells → StaysMade cur new → Grows cur new
+grows_element (Ok ts) cur new k p c s = record { more = option_to_list (slice_get ts k); stack = p; cells = c; stays = s }
+grows_element (Err f) cur new k p c s = absurd p

@@ -13,10 +13,9 @@ use Rattle.tclv_model.specs.Rows.{Answer, Gives, Refuses, and_then}
 use Rattle.tclv_model.specs.Values.{place_of}
 use Rattle.tclv_value.specs.View.{View}
 use Rattle.tclv_value.specs.Changes.{Pushes}
-use Rattle.tclv_lists.specs.Replies.{Grows, Reads, Refused}
+use Rattle.tclv_reply.specs.Replies.{Grows, Reads, Refused}
 use Rattle.tclv_lists.specs.Changing.{IsMarked, with_mark, places_of, without_from}
-use Rattle.tclv_lists.proofs.StepLemmas.{Went}
-use Rattle.tclv_lists.proofs.PathLemmas.{words_step, went_as}
+use Rattle.tclv_reply.proofs.Laws.{Went, went_as, words_step}
 
 -- The places that were read so far are marked, and the rest are still to be read.
 pub record MarkedSoFar (words rest : List (List ℕ)) (len : ℕ) (marks : List Bool) (old cur : View) : Type 0 where

@@ -14,7 +14,7 @@ use Rattle.tclv_model.specs.Values.{too_large}
 use Rattle.tclv_value.specs.Sequences.{number_at, sequence, IsInWords, LeavesWords}
 use Rattle.tclv_lists.specs.Sequences.{is_word, sequence_of, lseq_count, row_lseq}
 use Rattle.tclv_value.specs.Stacks.{top}
-use Rattle.tclv_lists.proofs.WordLemmas.{first_word, three_words}
+use Rattle.tclv_reply.proofs.Laws.{first_word, three_words}
 
 fits_word : (z : ℤ) → FitsSigned w64 z → is_word z ≡ true
 fits_word (pos n) h = lt-ltb _ _ h.sfits

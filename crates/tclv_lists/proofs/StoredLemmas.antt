@@ -6,11 +6,11 @@ use Rattle.tclv_model.specs.declared.data_commands.CmdFault.TheVariants as fault
 use Rattle.tclv_model.specs.declared.data_commands.VarState.{VarState}
 use Rattle.tclv_model.specs.Rows.{RowAnswer, VarAnswer, Variable, and_then, wrong_count}
 use Rattle.tclv_value.specs.View.{View}
-use Rattle.tclv_lists.specs.Replies.{Grows, Refused, Settles, Answers, VarAnswers, cells_with, left_count}
+use Rattle.tclv_reply.specs.Replies.{Grows, Refused, Settles, Answers, VarAnswers, cells_with, left_count}
 use Rattle.tclv_lists.specs.Paths.{path_of}
-use Rattle.tclv_lists.specs.Variables.{both, Stores, lset_of, row_lset, row_lpop}
-use Rattle.tclv_lists.proofs.ReplyLemmas.{grows_trans, refused_after, moved_down, ends_on, ends_len, room_refused}
-use Rattle.tclv_lists.proofs.VariableLemmas.{var_given, var_refused}
+use Rattle.tclv_reply.specs.Variables.{both}
+use Rattle.tclv_lists.specs.Variables.{Stores, lset_of, row_lset, row_lpop}
+use Rattle.tclv_reply.proofs.Laws.{grows_trans, refused_after, moved_down, ends_on, ends_len, room_refused, var_given, var_refused}
 
 -- steps behind others
 pub stores_after : (row rest : VarAnswer) (variable : VarState) (old mid new : View) (r : Result (Unit {0}) CmdFault) → Grows old mid → row ≡ rest → Stores rest variable mid new r → Stores row variable old new r

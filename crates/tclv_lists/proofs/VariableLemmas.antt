@@ -1,106 +1,18 @@
 -- Laws of commands that change a variable.
-use Rattle.std.proofs.Common.{◌≡◌, ℕ, ◌+◌, ◌-◌, ◌<◌, ◌≤◌, Bool, true, false, List, [], ◌∷◌, ◌++◌, length, take, drop, get_or, cond, Option, Some, None, IsSome, is_some, Result, Ok, Err, refl, sym, ap, ◌∙◌, subst, arith, append-nil, append_assoc, nat_eq}
-use Rattle.std.specs.Prelude.{IsOkAnd}
-use Rattle.std.specs.Option.{unwrap_or}
-use Rattle.std.specs.Ordering.{nat_cmp}
-use Rattle.std.specs.Cmp.{nat_cmp_total, unsigned_ties}
-use Rattle.std.specs.FinMap.{FinMap, get, insert, get-insert, same_map, nat_cmp-IsAntisymmetric}
-use Rattle.std.proofs.lemmas.List.{length-take, length-drop, take-take, take_all, drop_all, take_more, get_or-drop, get_or_append_left}
-use Rattle.std.proofs.lemmas.Bool.{eqb-true}
-use Rattle.tclv_text.specs.Lists.{ListFlaw, MissingBrace, MissingQuote, TextAfterBrace, TextAfterQuote}
+use Rattle.std.proofs.Common.{◌≡◌, ℕ, ◌<◌, List, [], ◌∷◌, ◌++◌, length, drop, refl, ap, ◌∙◌, arith, append-nil}
+use Rattle.std.proofs.lemmas.List.{take_all, drop_all}
 use Rattle.tclv_text.specs.Elements.{pieces_from}
 use Rattle.tclv_text.specs.Quotes.{list_text}
-use Rattle.tclv_model.specs.declared.data_commands.CmdFault.{CmdFault}
-use Rattle.tclv_model.specs.declared.data_commands.CmdFault.TheVariants as fault
-use Rattle.tclv_model.specs.declared.data_commands.VarState.{VarState}
-use Rattle.tclv_model.specs.Rows.{VarAnswer, Gives, and_then}
-use Rattle.tclv_model.specs.Values.{no_list, list_read, list_of}
-use Rattle.tclv_value.specs.View.{View, HasPlace, text_at}
-use Rattle.tclv_value.specs.declared.places.At.TheVariants.{Cell}
-use Rattle.tclv_value.specs.Stacks.{under}
+use Rattle.tclv_model.specs.Rows.{and_then}
+use Rattle.tclv_model.specs.Values.{list_of}
 use Rattle.tclv_value.specs.Lists.{replaced}
-use Rattle.tclv_lists.specs.Replies.{Grows, Refused, Settles, Declines, VarAnswers, cells_with}
-use Rattle.tclv_lists.specs.Variables.{both, appended}
-use Rattle.tclv_lists.proofs.StepLemmas.{Went, keeps_went}
-use Rattle.tclv_lists.proofs.ReplyLemmas.{refused_answer}
-
-is_itself : (k : ℕ) → nat_eq k k ≡ true
-is_itself k = grind arith
-
-pub get_put : {X : Type 0} (m : FinMap nat_cmp X) (k : ℕ) (x : X) → get (insert m k x) k ≡ Some x
-get_put m k x = get-insert nat_cmp_total m k x k ∙ ap (λ b. cond b (Some x) (get m k)) (sym (unsigned_ties k k) ∙ is_itself k)
-
--- a cell that got a text has it
-pub cell_there : (new : View) (old : FinMap nat_cmp (List ℕ)) (k : ℕ) (t : List ℕ) → new.cells ≡ insert old k t → HasPlace new (Cell k)
-cell_there new old k t e = ap (λ m. is_some (get m k)) e ∙ ap is_some (get_put old k t)
-
-pub cell_text : (new : View) (old : FinMap nat_cmp (List ℕ)) (k : ℕ) (t : List ℕ) → new.cells ≡ insert old k t → text_at new (Cell k) ≡ t
-cell_text new old k t e = ap (λ m. unwrap_or (get m k) []) e ∙ ap (λ o. unwrap_or o []) (get_put old k t)
-
--- a text that is known to be a list, whatever is said of its elements
-not_given : (flaw : ListFlaw) (ts : List (List ℕ)) → no_list {A = List (List ℕ)} flaw ≡ Gives ts → ⊥
-not_given MissingBrace ts e = cc
-not_given MissingQuote ts e = cc
-not_given (TextAfterBrace r) ts e = cc
-not_given (TextAfterQuote r) ts e = cc
-
-same_given : (us ts : List (List ℕ)) → Gives us ≡ Gives ts → us ≡ ts
-same_given us ts e = cc
-
-pub list_known : (r : Result (List (List ℕ)) ListFlaw) (ts : List (List ℕ)) (P : List (List ℕ) → Type 0) → list_read r ≡ Gives ts → IsOkAnd r P → P ts
-list_known (Ok us) ts P e h = subst P (same_given us ts e) h
-list_known (Err flaw) ts P e h = absurd h
+use Rattle.tclv_reply.specs.Variables.{both}
+use Rattle.tclv_lists.specs.Variables.{appended}
 
 -- words behind the last element
 pub replaced_behind : (ts words : List (List ℕ)) (n : ℕ) → n ≡ length ts → replaced ts n n words ≡ ts ++ words
 replaced_behind ts words n e =
     ap (λ t. t ++ words ++ drop n ts) (take_all n ts (omega arith)) ∙ ap (λ t. ts ++ words ++ t) (drop_all n ts (omega arith)) ∙ append-nil (ts ++ words)
-
--- a call that is refused leaves its variable
-pub var_refused : (row : VarAnswer) (variable : VarState) (n : ℕ) (old mid new : View) (height : ℕ) (kind : CmdFault) (result : Result (Unit {0}) CmdFault) → height ≡ length old.stack → n ≤ height → Grows old mid → Refused row kind old.stack mid.stack → Settles n height (Err kind) mid new → result ≡ Err kind → VarAnswers row variable n old new result
-var_refused row variable n old mid new height kind result h l g r s e =
-    let a = refused_answer row n old mid new height kind h l g r s in
-    subst (λ (x : Result (Unit {0}) CmdFault). VarAnswers row variable n old new x) (sym e) (record { gives = tt; refuses = a.0; kept = a.1 })
-
--- a call that gives its variable a text
-pub var_given : (row : VarAnswer) (variable : VarState) (n : ℕ) (old new : View) (t u : List ℕ) (x : Unit {0}) → row ≡ Gives (t, u) → new.stack ≡ under n old.stack ++ t ∷ [] → new.cells ≡ cells_with variable old.cells u → VarAnswers row variable n old new (Ok x)
-var_given row variable n old new t u x e s c = record { gives = record { text = t; kept = u; given = e; stack = s; cells = c }; refuses = tt; kept = tt }
-
--- what is left of a stack when texts went in two goes
-pub under_under : {A : Type 0} (s : List A) (n k : ℕ) → k ≤ n → n ≤ length s → take (length (under k s) - (n - k)) (under k s) ≡ under n s
-under_under s n k h l =
-    let a : length (under k s) ≡ length s - k = omega (arith, length-take (length s - k) s) in
-    let b : length (under k s) - (n - k) ≡ length s - n = omega arith in
-    ap (λ m. take m (under k s)) b ∙ take-take (length s - n) (length s - k) s (omega arith)
-
--- one more of the words that are pushed again
-pub one_more : (s cur new : List (List ℕ)) (from at : ℕ) → from ≤ at → at < length s → cur ≡ s ++ take (at - from) (drop from s) → new ≡ cur ++ get_or cur at [] ∷ [] → new ≡ s ++ take (at + 1 - from) (drop from s)
-one_more s cur new from at h l e f =
-    let k = at - from in
-    let d = drop from s in
-    let inside : k < length d = omega (arith, length-drop from s) in
-    let i : from + k ≡ at = omega arith in
-    let j : at + 1 - from ≡ k + 1 = omega arith in
-    let word : get_or cur at [] ≡ get_or d k [] = ap (λ t. get_or t at []) e ∙ get_or_append_left s (take k d) [] at l ∙ ap (λ m. get_or s m []) (sym i) ∙ sym (get_or-drop from s k []) in
-    f ∙ ap (λ t. t ++ get_or cur at [] ∷ []) e ∙ append_assoc s (take k d) (get_or cur at [] ∷ []) ∙ ap (λ x. s ++ (take k d ++ x ∷ [])) word ∙ ap (λ t. s ++ t) (sym (take_more d k [] inside)) ∙ ap (λ m. s ++ take m d) (sym j)
-
-get_other : {X : Type 0} (m : FinMap nat_cmp X) (k q : ℕ) (x : X) → nat_eq q k ≡ false → get (insert m k x) q ≡ get m q
-get_other m k q x ne = get-insert nat_cmp_total m k x q ∙ ap (λ b. cond b (Some x) (get m q)) (sym (unsigned_ties q k) ∙ ne)
-
-put_cases : {X : Type 0} (m : FinMap nat_cmp X) (k q : ℕ) (x : X) → get m k ≡ Some x → (b : Bool) → nat_eq q k ≡ b → get (insert m k x) q ≡ get m q
-put_cases m k q x h false e = get_other m k q x e
-put_cases m k q x h true e = let same : q ≡ k = eqb-true q k e in ap (get (insert m k x)) same ∙ get_put m k x ∙ sym h ∙ ap (get m) (sym same)
-
--- the text that a cell has, written once more
-pub put_same : {X : Type 0} (m : FinMap nat_cmp X) (k : ℕ) (x : X) → get m k ≡ Some x → insert m k x ≡ m
-put_same m k x h = same_map nat_cmp_total nat_cmp-IsAntisymmetric (insert m k x) m (λ q. put_cases m k q x h (nat_eq q k) refl)
-
-known : (x : Option (List ℕ)) → IsSome x → x ≡ Some (unwrap_or x [])
-known None h = absurd (cc)
-known (Some t) h = refl
-
-pub cell_kept : (v : View) (k : ℕ) → HasPlace v (Cell k) → insert v.cells k (text_at v (Cell k)) ≡ v.cells
-cell_kept v k h = put_same v.cells k (text_at v (Cell k)) (known (get v.cells k) h)
 
 -- what is added to nothing
 pub added_to_none : (values : List (List ℕ)) → and_then (list_of []) (λ ts. both (appended [] values ts)) ≡ both (list_text values)
@@ -108,35 +20,7 @@ unfolding pieces_from
 added_to_none [] = refl
 added_to_none (v ∷ vs) = refl
 
-pub no_text : (o : Option (List ℕ)) → is_some o ≡ false → unwrap_or o [] ≡ []
-no_text None h = refl
-no_text (Some t) h = absurd (cc)
-
 -- some values are added behind the last element
 pub some_added : (t : List ℕ) (values : List (List ℕ)) → 0 < length values → and_then (list_of t) (λ ts. both (appended t values ts)) ≡ and_then (list_of t) (λ ts. both (list_text (ts ++ values)))
 some_added t [] h = absurd (omega arith)
 some_added t (v ∷ vs) h = refl
-
-pub var_as : (row rest : VarAnswer) (variable : VarState) (n : ℕ) (old new : View) (r : Result (Unit {0}) CmdFault) → row ≡ rest → VarAnswers rest variable n old new r → VarAnswers row variable n old new r
-var_as row rest variable n old new r e = subst (λ a. VarAnswers a variable n old new r) (sym e)
-
--- the answer of a call that begins where the row came to
-module _ {row rest : VarAnswer} {old mid new : View} (variable : VarState) (n : ℕ) (then : VarAnswer) (w : Went row rest old mid) (e : rest ≡ then) where
-  declines_on : (kind : CmdFault) → Declines then kind n mid new → Declines row kind n old new
-  declines_on kind d = record { message = d.message; code = d.code; refused = w.is ∙ (e ∙ d.refused); stack = d.stack ∙ ap (λ s. under n s ++ (d.message ∷ d.code ∷ [])) w.same }
-
-  pub var_on : (r : Result (Unit {0}) CmdFault) → VarAnswers then variable n mid new r → VarAnswers row variable n old new r
-  var_on (Ok x) a = record {
-    gives = record {
-      text = a.gives.text;
-      kept = a.gives.kept;
-      given = w.is ∙ (e ∙ a.gives.given);
-      stack = a.gives.stack ∙ ap (λ s. under n s ++ a.gives.text ∷ []) w.same;
-      cells = a.gives.cells ∙ ap (λ m. cells_with variable m a.gives.kept) w.grows.cells;
-    };
-    refuses = tt;
-    kept = tt;
-  }
-  var_on (Err fault.NoMemory) a = record { gives = tt; refuses = keeps_went w a.refuses; kept = a.kept ∙ w.grows.cells }
-  var_on (Err fault.WrongArgs) a = record { gives = tt; refuses = declines_on fault.WrongArgs a.refuses; kept = a.kept ∙ w.grows.cells }
-  var_on (Err fault.Message) a = record { gives = tt; refuses = declines_on fault.Message a.refuses; kept = a.kept ∙ w.grows.cells }

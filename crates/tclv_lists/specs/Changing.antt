@@ -7,7 +7,7 @@ use Rattle.tclv_text.specs.Quotes.{list_text}
 use Rattle.tclv_value.specs.Lists.{replaced}
 use Rattle.tclv_model.specs.Rows.{Answer, RowAnswer, Gives, and_then, wrong_count}
 use Rattle.tclv_model.specs.Values.{list_of, place_of, raised}
-use Rattle.tclv_lists.specs.Paths.{place_among}
+use Rattle.tclv_reply.specs.Places.{place_among}
 
 -- `lreverse list`: the elements from the last to the first
 abbrev pub reversed_of : List ℕ → RowAnswer

@@ -1,12 +1,9 @@
-pub mod Replies
-pub mod Shown
 pub mod Paths
 pub mod Making
 pub mod Reading
 pub mod Changing
 pub mod Joining
 pub mod Sequences
-pub mod Options
 pub mod Searching
 pub mod Sorting
 pub mod Variables

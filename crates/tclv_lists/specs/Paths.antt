@@ -1,21 +1,16 @@
 -- Paths of indices, which lead to an element of a list, to an element of that, and so on.
-use Rattle.std.specs.Prelude.{◌≡◌, ◌≤◌, ℕ, ◌-◌, Bool, true, false, nat_le, nat_lt, if◌then◌else◌, List, [], ◌∷◌, ◌++◌, length, take, drop, Option, Some, None, Result, IfOk, IfErr, OnOk, slice_get, slice_index_or, ℤ, pos, negsuc}
+use Rattle.std.specs.Prelude.{◌≡◌, ◌≤◌, ℕ, ◌-◌, Bool, true, false, if◌then◌else◌, List, [], ◌∷◌, ◌++◌, length, take, drop, Option, None, Result, IfOk, IfErr, OnOk, slice_get, slice_index_or, ℤ, pos, negsuc}
 use Rattle.std.specs.Option.{option_map_or}
-use Rattle.std.specs.Result.{is_ok, result_unwrap_or}
+use Rattle.std.specs.Result.{result_unwrap_or}
 use Rattle.tclv_text.specs.Elements.{elements}
-use Rattle.tclv_text.specs.Indices.{index}
 use Rattle.tclv_text.specs.Quotes.{list_text}
-use Rattle.tclv_model.specs.declared.messages.MessageId.TheVariants.{IndexOutOfRange}
-use Rattle.tclv_model.specs.Rows.{Answer, RowAnswer, Gives, and_then, says}
+use Rattle.tclv_model.specs.Rows.{Answer, RowAnswer, Gives, and_then}
 use Rattle.tclv_model.specs.Values.{list_of, place_of}
 use Rattle.tclv_model.specs.declared.data_commands.CmdFault.{CmdFault}
 use Rattle.tclv_value.specs.View.{View}
 use Rattle.tclv_value.specs.Paths.{put_at}
-use Rattle.tclv_lists.specs.Replies.{Grows, Refused}
-
--- whether the text has the form of an index, which no length changes
-abbrev pub is_index : List ℕ → Bool
-is_index word = is_ok (index word 0)
+use Rattle.tclv_reply.specs.Places.{is_index, place_within}
+use Rattle.tclv_reply.specs.Replies.{Grows, Refused}
 
 -- The indices that words name: the words themselves, but one word alone that is no index and is a list stands for its elements.
 abbrev pub path_of : List (List ℕ) → List (List ℕ)
@@ -45,24 +40,6 @@ element_at t (i ∷ path) =
     and_then (place_of i (length ts)) (λ k.
     option_map_or (λ x. element_at x path) (element ts k) (checked path (Gives []))))
 
--- a place of a list with so many elements, or the one behind the last
-abbrev pub within : List ℕ → ℕ → ℤ → Answer ℕ
-within i len (pos k) = if nat_le k len then Gives k else says IndexOutOfRange i []
-within i len (negsuc k) = says IndexOutOfRange i []
-
--- a place of an element of a list with so many
-abbrev pub inside : List ℕ → ℕ → ℤ → Answer ℕ
-inside i len (pos k) = if nat_lt k len then Gives k else says IndexOutOfRange i []
-inside i len (negsuc k) = says IndexOutOfRange i []
-
--- the place of an element of a list with so many, or the one behind the last, which an index names
-abbrev pub place_within : List ℕ → ℕ → Answer ℕ
-place_within i len = and_then (place_of i len) (λ place. within i len place)
-
--- the place of an element of a list with so many, which an index names
-abbrev pub place_inside : List ℕ → ℕ → Answer ℕ
-place_inside i len = and_then (place_of i len) (λ place. inside i len place)
-
 -- The text in which the value x stands at the end of the path. Each list on the path gets its canonical text, and an index that is the list's length stands for a
 -- new element, which is empty at first.
 abbrev pub put_along : List ℕ → List (List ℕ) → List ℕ → RowAnswer
@@ -71,11 +48,6 @@ put_along t (i ∷ path) x =
     and_then (list_of t) (λ ts.
     and_then (place_within i (length ts)) (λ k.
     and_then (put_along (slice_index_or ts k []) path x) (λ y. Gives (list_text (put_at ts k y)))))
-
--- The place of an element among so many, if the number is one.
-abbrev pub place_among : ℕ → ℤ → Option ℕ
-place_among len (pos k) = if nat_lt k len then Some k else None
-place_among len (negsuc k) = None
 
 -- A step along a path: the element of the text t at the index i is on top.
 pub record Entered (t i : List ℕ) (old new : View) : Type 0 where

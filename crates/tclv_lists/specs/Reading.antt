@@ -20,15 +20,15 @@ row_lindex call (list ∷ words) = element_at list (path_of words)
 row_lindex call _ = wrong_count call (codes " list ?index ...?")
 
 -- the elements from one place up to and with another, as far as the list has them
-abbrev pub between : List (List ℕ) → ℤ → ℤ → List (List ℕ)
-between ts first last = let from = raised first in take (raised (last +ℤ pos 1) - from) (drop from ts)
+abbrev pub elements_between : List (List ℕ) → ℤ → ℤ → List (List ℕ)
+elements_between ts first last = let from = raised first in take (raised (last +ℤ pos 1) - from) (drop from ts)
 
 -- `lrange list first last`: the elements from the first place up to and with the last
 abbrev pub range_of : List ℕ → List ℕ → List ℕ → RowAnswer
 range_of list first last =
     and_then (list_of list) (λ ts.
     and_then (place_of first (length ts)) (λ a.
-    and_then (place_of last (length ts)) (λ b. Gives (list_text (between ts a b)))))
+    and_then (place_of last (length ts)) (λ b. Gives (list_text (elements_between ts a b)))))
 
 abbrev pub row_lrange : List ℕ → List (List ℕ) → RowAnswer
 row_lrange call (list ∷ first ∷ last ∷ []) = range_of list first last

@@ -3,21 +3,20 @@ use Rattle.std.specs.Prelude.{ℕ, ◌-◌, Bool, true, false, not, nat_lt, if�
 use Rattle.std.specs.Option.{option_map}
 use Rattle.std.specs.List.{enumerate_from}
 use Rattle.std.specs.Str.{bytes_eq}
-use Rattle.tclv_text.specs.Globs.{folded, matches}
 use Rattle.tclv_text.specs.Numbers.{whole_text}
 use Rattle.tclv_text.specs.Quotes.{list_text}
 use Rattle.tclv_model.specs.Rows.{Answer, RowAnswer, Gives, and_then, wrong_count}
 use Rattle.tclv_model.specs.Values.{list_of, place_of, raised}
-use Rattle.tclv_lists.specs.declared.searching.Comparison.{Comparison}
-use Rattle.tclv_lists.specs.declared.searching.Comparison.TheVariants.{Exact, Glob}
+use Rattle.tclv_reply.specs.declared.comparing.Matching.TheVariants.{Exact, Glob}
 use Rattle.tclv_lists.specs.declared.searching.Search.{Search}
 use Rattle.tclv_lists.specs.declared.searching.SearchOption.{SearchOption}
 use Rattle.tclv_lists.specs.declared.searching.SearchOption.TheVariants as option
-use Rattle.tclv_lists.specs.Options.{Options, known_or_bad, options_of}
+use Rattle.tclv_reply.specs.Comparing.{fits_pattern}
+use Rattle.tclv_reply.specs.Options.{Options, known_or_bad, options_of}
 
 -- without options: by glob, in each case, the first place
 abbrev pub plain_search : Search
-plain_search = record { comparison = Glob; nocase = false; negated = false; all = false; inline = false }
+plain_search = record { matching = Glob; nocase = false; negated = false; all = false; inline = false }
 
 -- the option without a value that a word is
 abbrev pub search_option : List ℕ → Option SearchOption
@@ -30,32 +29,28 @@ search_option o =
     if bytes_eq o (codes "-inline") then Some option.Inline else None)))))
 
 -- what it changes; the later of two that exclude each other counts
-abbrev pub with_option : Search → SearchOption → Search
-with_option s option.Exact = record s { comparison = Exact }
-with_option s option.Glob = record s { comparison = Glob }
-with_option s option.Nocase = record s { nocase = true }
-with_option s option.Not = record s { negated = true }
-with_option s option.All = record s { all = true }
-with_option s option.Inline = record s { inline = true }
+abbrev pub with_search_option : Search → SearchOption → Search
+with_search_option s option.Exact = record s { matching = Exact }
+with_search_option s option.Glob = record s { matching = Glob }
+with_search_option s option.Nocase = record s { nocase = true }
+with_search_option s option.Not = record s { negated = true }
+with_search_option s option.All = record s { all = true }
+with_search_option s option.Inline = record s { inline = true }
 
-abbrev pub with_word : List ℕ → Search → Answer Search
-with_word o s = known_or_bad o (option_map (with_option s) (search_option o))
+-- the settings after an option, if the word is one
+abbrev pub search_after : List ℕ → Search → Option Search
+search_after o s = option_map (with_search_option s) (search_option o)
 
 abbrev pub lsearch_count : {A : Type 0} → List ℕ → Answer A
 lsearch_count call = wrong_count call (codes " ?option ...? list pattern")
 
 -- the options, of which `-start` has a value
 abbrev pub search_options : List ℕ → List (List ℕ) → Answer (Options Search)
-search_options call words = options_of (codes "-start") with_word (lsearch_count call) words (record { settings = plain_search; index = None })
-
--- the element fits the pattern
-abbrev pub fits : Comparison → Bool → List ℕ → List ℕ → Bool
-fits Exact nocase pattern t = bytes_eq (folded nocase pattern) (folded nocase t)
-fits Glob nocase pattern t = matches nocase pattern t
+search_options call words = options_of (codes "-start") (λ o s. known_or_bad o (search_after o s)) (lsearch_count call) words (record { settings = plain_search; index = None })
 
 -- the element is one that is looked for
 abbrev pub is_wanted : Search → List ℕ → List ℕ → Bool
-is_wanted s pattern t = let found = fits s.comparison s.nocase pattern t in if s.negated then not found else found
+is_wanted s pattern t = let found = fits_pattern s.matching s.nocase pattern t in if s.negated then not found else found
 
 -- those from a place on, with their places
 abbrev pub wanted : Search → List ℕ → ℕ → List (List ℕ) → List (ℕ × List ℕ)

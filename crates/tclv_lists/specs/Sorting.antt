@@ -22,7 +22,7 @@ use Rattle.tclv_lists.specs.declared.sorting.Key.TheVariants.{Number, Word}
 use Rattle.tclv_lists.specs.declared.sorting.Entry.{Entry}
 use Rattle.tclv_lists.specs.declared.sorting.OrderOption.{OrderOption}
 use Rattle.tclv_lists.specs.declared.sorting.OrderOption.TheVariants as option
-use Rattle.tclv_lists.specs.Options.{Options, known_or_bad, options_of}
+use Rattle.tclv_reply.specs.Options.{Options, known_or_bad, options_of}
 use Rattle.tclv_lists.specs.Paths.{element}
 
 -- without options: the elements themselves, as texts, in increasing order
@@ -40,22 +40,23 @@ order_option o =
     if bytes_eq o (codes "-unique") then Some option.Unique else None)))))
 
 -- what it changes; the later of two that exclude each other counts
-abbrev pub with_option : Order → OrderOption → Order
-with_option s option.Ascii = record s { comparison = Ascii }
-with_option s option.Integer = record s { comparison = Integer }
-with_option s option.Nocase = record s { nocase = true }
-with_option s option.Increasing = record s { direction = Increasing }
-with_option s option.Decreasing = record s { direction = Decreasing }
-with_option s option.Unique = record s { unique = true }
+abbrev pub with_order_option : Order → OrderOption → Order
+with_order_option s option.Ascii = record s { comparison = Ascii }
+with_order_option s option.Integer = record s { comparison = Integer }
+with_order_option s option.Nocase = record s { nocase = true }
+with_order_option s option.Increasing = record s { direction = Increasing }
+with_order_option s option.Decreasing = record s { direction = Decreasing }
+with_order_option s option.Unique = record s { unique = true }
 
-abbrev pub with_word : List ℕ → Order → Answer Order
-with_word o s = known_or_bad o (option_map (with_option s) (order_option o))
+-- the settings after an option, if the word is one
+abbrev pub order_after : List ℕ → Order → Option Order
+order_after o s = option_map (with_order_option s) (order_option o)
 
 abbrev pub lsort_count : {A : Type 0} → List ℕ → Answer A
 lsort_count call = wrong_count call (codes " ?option ...? list")
 
 abbrev pub order_options : List ℕ → List (List ℕ) → Answer (Options Order)
-order_options call words = options_of (codes "-index") with_word (lsort_count call) words (record { settings = plain_order; index = None })
+order_options call words = options_of (codes "-index") (λ o s. known_or_bad o (order_after o s)) (lsort_count call) words (record { settings = plain_order; index = None })
 
 -- the text of an element that is compared
 abbrev pub key_text : Option (List ℕ) → List ℕ → RowAnswer

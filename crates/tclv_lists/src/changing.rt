@@ -11,15 +11,16 @@ ghost use Rattle.tclv_model.specs.Rows.{Gives, and_then};
 ghost use Rattle.tclv_model.specs.Values.{list_of, place_of};
 ghost use Rattle.tclv_value.specs.Stacks.{top};
 ghost use Rattle.tclv_value.specs.Lists.{replaced};
-ghost use Rattle.tclv_lists.specs.Replies.{call_word, Answers, Grows, Leaves, Reads};
+ghost use Rattle.tclv_reply.specs.Replies.{call_word, Answers, Grows, Leaves, Reads};
 ghost use Rattle.tclv_lists.specs.Changing.{reversed_of, row_lreverse, IsGap, gap_between, gap_before, row_lreplace, row_linsert, IsMarked, with_mark, places_of, without_from, removed_of, row_lremove};
 
 use crate::joining::{add_element, copy_word};
-use crate::numbers::{clipped_behind, clipped_place, place_among};
-use crate::replies::{push_bytes, refuse_words, settle};
-use crate::values::{list_len, refuse_list};
 use std::alloc::Global;
 use tclv_model::CmdFault;
+use tclv_reply::{
+    clipped_behind, clipped_place, list_len, place_among, push_bytes, refuse_list, refuse_words,
+    settle,
+};
 use tclv_text::{NoMemory, Span, split_list};
 use tclv_value::{At, Store};
 

@@ -13,13 +13,12 @@ ghost use Rattle.tclv_value.specs.Stacks.{top};
 ghost use Rattle.tclv_value.specs.Changes.{KeepsTexts, Pushes};
 ghost use Rattle.tclv_value.specs.View.{IsMade};
 ghost use Rattle.tclv_value.specs.declared.places.At.TheVariants.{Stack};
-ghost use Rattle.tclv_lists.specs.Replies.{call_word, Answers, Grows, Leaves};
+ghost use Rattle.tclv_reply.specs.Replies.{call_word, Answers, Grows, Leaves};
 ghost use Rattle.tclv_lists.specs.Joining.{joined, joined_of, row_join, spaced, concatenated, trimmed, ends_in_backslash, row_concat, single, is_one_of, split_parts, row_split};
 
-use crate::replies::{make_word, push_ascii, push_bytes, refuse_words, settle};
-use crate::values::list_len;
 use std::alloc::Global;
 use tclv_model::CmdFault;
+use tclv_reply::{list_len, make_word, push_ascii, push_bytes, refuse_words, settle};
 use tclv_text::{NoMemory, Span, Text, as_str, split_list, unescape};
 use tclv_value::{At, Store};
 

@@ -10,24 +10,18 @@
 #![tactic(auto)]
 
 mod changing;
-mod elements;
 mod joining;
 mod making;
-mod numbers;
-mod options;
 mod paths;
 mod points;
 mod reading;
-mod replies;
 mod searching;
 mod sequences;
 mod setting;
 mod sorting;
-mod values;
 mod variables;
 
 pub use changing::{cmd_linsert, cmd_lremove, cmd_lreplace, cmd_lreverse};
-pub use elements::{Elements, list_elements};
 pub use joining::{cmd_concat, cmd_join, cmd_split};
 pub use making::{cmd_list, cmd_lrepeat};
 pub use reading::{cmd_lindex, cmd_llength, cmd_lrange};
@@ -36,6 +30,3 @@ pub use sequences::cmd_lseq;
 pub use setting::{cmd_lpop, cmd_lset};
 pub use sorting::cmd_lsort;
 pub use variables::cmd_lappend;
-
-#[cfg(test)]
-mod tests;

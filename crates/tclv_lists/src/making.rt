@@ -1,12 +1,11 @@
 // The commands that make lists of their words.
 ghost use Rattle.std.specs.Prelude.{◌≡◌, ◌+◌, ◌-◌, ◌<◌, ◌≤◌, ◌++◌, [], length, take, drop, OnOk, slice_index_or};
 ghost use Rattle.tclv_value.specs.Stacks.{top};
-ghost use Rattle.tclv_lists.specs.Replies.{call_word, Answers, Grows, Reads, Leaves};
+ghost use Rattle.tclv_reply.specs.Replies.{call_word, Answers, Grows, Reads, Leaves};
 ghost use Rattle.tclv_lists.specs.Making.{row_list, times, count_of, repeated_of, row_lrepeat};
 
-use crate::numbers::whole_of;
-use crate::replies::{push_words, refuse_on, refuse_words, settle};
 use tclv_model::{CmdFault, MessageId};
+use tclv_reply::{push_words, refuse_on, refuse_words, settle, whole_of};
 use tclv_text::NoMemory;
 use tclv_value::Store;
 

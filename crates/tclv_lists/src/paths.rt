@@ -5,13 +5,14 @@ ghost use Rattle.tclv_value.specs.View.{IsMade};
 ghost use Rattle.tclv_value.specs.declared.places.At.TheVariants.{Stack};
 ghost use Rattle.tclv_text.specs.Elements.{elements};
 ghost use Rattle.tclv_model.specs.Rows.{Gives};
-ghost use Rattle.tclv_lists.specs.Replies.{Grows, Leaves};
+ghost use Rattle.tclv_reply.specs.Replies.{Grows, Leaves};
 ghost use Rattle.tclv_lists.specs.Paths.{path_of, checked, element_at, StepsInto, IsPathAt};
 
-use crate::numbers::{check_index, is_index, place_among};
-use crate::replies::{make_word, push_bytes, push_word};
-use crate::values::{know_text, list_len, refuse_list};
 use tclv_model::CmdFault;
+use tclv_reply::{
+    check_index, is_index, know_text, list_len, make_word, place_among, push_all, push_bytes,
+    push_word, refuse_list,
+};
 use tclv_text::NoMemory;
 use tclv_value::{At, Store, ValueFault};
 
@@ -72,23 +73,6 @@ pub(crate) fn push_at(
     Ok(())
 }
 
-// Pushes the elements of a list, of which there are so many.
-fn push_all(store: &mut Store, list: usize, len: u64) -> Result<(), NoMemory>
-    requires list { list < length store.old.stack }
-    requires len { ForOk (elements (slice_index_or store.old.stack list [])) (λ ts. len ≡ length ts) }
-    ensures grows { Grows store.old store.new }
-    ensures pushed { OnOk result (ForOk (elements (slice_index_or store.old.stack list [])) (λ ts.
-        store.new.stack ≡ store.old.stack ++ ts)) }
-{
-    for k in 0..len {
-        match store.push_element(At::Stack(list), k) {
-            Ok(_found) => {}
-            Err(_fault) => return Err(NoMemory),
-        }
-    }
-    Ok(())
-}
-
 // Where the path is that one word names, which is made: the word, or its elements where it is no index and is a
 // list.
 fn read_word_path(store: &mut Store, word: usize, end: usize) -> Result<(usize, usize), NoMemory>
@@ -103,14 +87,15 @@ fn read_word_path(store: &mut Store, word: usize, end: usize) -> Result<(usize, 
         return Ok((word, end));
     }
     know_text(store, At::Stack(word));
-    match store.list_len(At::Stack(word)) {
-        Ok(len) => {
+    match store.elements_at(At::Stack(word)) {
+        Ok(elements) => {
             let from = store.height();
-            push_all(store, word, len)?;
+            push_all(store, elements.as_slice())?;
             Ok((from, store.height()))
         }
         Err(ValueFault::NotList(_why)) => Ok((word, end)),
-        Err(_fault) => Err(NoMemory),
+        Err(ValueFault::NoMemory) => Err(NoMemory),
+        Err(_) => unreachable!(),
     }
 }
 

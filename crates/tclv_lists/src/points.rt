@@ -2,7 +2,7 @@
 ghost use Rattle.std.specs.Prelude.{◌≡◌, IfOk};
 ghost use Rattle.std.specs.Ordering.{nat_cmp};
 ghost use Rattle.std.specs.Cmp.Lexicographic.{slice_cmp};
-ghost use Rattle.std.specs.Str.{chars, bytes_eq};
+ghost use Rattle.std.specs.Str.{chars};
 ghost use Rattle.tclv_text.specs.Texts.{IsText};
 ghost use Rattle.tclv_text.specs.Globs.{folded_char, folded};
 
@@ -26,34 +26,11 @@ impl Model for Points {
 }
 
 impl Points {
-    // Lends them.
-    fn all(&self) -> &[char]
-        ensures { result.now ≡ self.now }
-    {
-        self.items.as_slice()
-    }
-
     /// Whether the one comes before, is, or comes behind the other, by the first code points that differ.
     pub(crate) fn compare(&self, other: &Points) -> Ordering
         ensures { result ≡ slice_cmp nat_cmp self.now other.now }
     {
         self.items.cmp(&other.items)
-    }
-
-    /// Whether they are those of a text, where case counts for nothing in the text or does.
-    pub(crate) fn are_of(&self, text: &[u8], nocase: bool) -> bool
-        requires { IsText text.now }
-        ensures { result ≡ bytes_eq self.now (folded nocase (chars text.now)) }
-    {
-        let points = self.all();
-        let mut k = 0usize;
-        for c in as_str(text).chars() {
-            if k >= points.len() || points[k] != folded(c, nocase) {
-                return false;
-            }
-            k += 1;
-        }
-        k == points.len()
     }
 }
 

@@ -6,14 +6,14 @@ ghost use Rattle.tclv_text.specs.Quotes.{list_text};
 ghost use Rattle.tclv_model.specs.Rows.{Gives, and_then};
 ghost use Rattle.tclv_model.specs.Values.{list_of};
 ghost use Rattle.tclv_value.specs.Stacks.{top};
-ghost use Rattle.tclv_lists.specs.Replies.{call_word, Answers, Leaves};
+ghost use Rattle.tclv_reply.specs.Replies.{call_word, Answers, Leaves};
 ghost use Rattle.tclv_lists.specs.Reading.{length_of, row_llength, range_of, row_lrange, row_lindex};
 
-use crate::numbers::{clipped_behind, clipped_place};
 use crate::paths::push_named;
-use crate::replies::{push_count, refuse_words, settle};
-use crate::values::{list_len, refuse_list};
 use tclv_model::CmdFault;
+use tclv_reply::{
+    clipped_behind, clipped_place, list_len, push_count, refuse_list, refuse_words, settle,
+};
 use tclv_value::{At, Store};
 
 // Pushes the number of elements of a list.

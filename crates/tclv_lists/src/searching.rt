@@ -3,41 +3,28 @@ ghost use Rattle.std.specs.Prelude.{◌≡◌, ◌+◌, ◌-◌, ◌<◌, ◌≤
 ghost use Rattle.std.specs.Option.{option_map, ForSome};
 ghost use Rattle.std.specs.Str.{chars};
 ghost use Rattle.tclv_text.specs.Texts.{IsText};
-ghost use Rattle.tclv_text.specs.Globs.{folded};
 ghost use Rattle.tclv_model.specs.Rows.{Gives};
-ghost use Rattle.tclv_value.specs.View.{IsMade};
-ghost use Rattle.tclv_value.specs.declared.places.At.TheVariants.{Stack};
 ghost use Rattle.tclv_value.specs.Stacks.{top};
 ghost use Rattle.tclv_value.specs.Changes.{Pushes, KeepsTexts};
-ghost use Rattle.tclv_lists.specs.Replies.{call_word, Answers, Grows, Reads, Leaves};
-ghost use Rattle.tclv_lists.specs.Options.{AreOptions};
+ghost use Rattle.tclv_reply.specs.Replies.{call_word, Answers, Grows, Reads, Leaves};
+ghost use Rattle.tclv_reply.specs.Options.{AreOptions};
 ghost use Rattle.tclv_lists.specs.Searching as spec;
 
-use crate::elements::elements_of;
-use crate::numbers::{check_index, clipped_place};
-use crate::options::{copy_of, word_is};
-use crate::points::{Points, points_of};
-use crate::replies::{
-    make_word, push_bytes, push_count, push_number, refuse_count, refuse_on, refuse_words, settle,
+use tclv_model::CmdFault;
+use tclv_reply::{
+    Matching, OptionWords, Settings, clipped_place, copy_of, elements_of, fits_pattern, push_bytes,
+    push_count, push_number, read_options, refuse_words, settle,
 };
-use tclv_model::{CmdFault, MessageId};
-use tclv_text::{NoMemory, Text, as_str, glob_match};
-use tclv_value::{At, Store};
+use tclv_text::{NoMemory, Text, as_str};
+use tclv_value::Store;
 
-/// How an element is compared with the pattern.
-#[derive(Clone, Copy, Debug, PartialEq, Eq)]
-pub(crate) enum Comparison {
-    /// It is the pattern.
-    Exact,
-    /// The pattern is a glob that it fits.
-    Glob,
-}
+const USAGE: &str = " ?option ...? list pattern";
 
 /// What the options of `lsearch` say that have no value.
 #[derive(Clone, Copy, Debug, PartialEq, Eq)]
 pub(crate) struct Search {
     /// How an element is compared with the pattern.
-    pub comparison: Comparison,
+    pub matching: Matching,
     /// Whether case counts for nothing.
     pub nocase: bool,
     /// Whether those are looked for that don't fit.
@@ -65,7 +52,7 @@ pub(crate) enum SearchOption {
     Inline,
 }
 
-// The option that a word is.
+// The option of these bytes.
 fn search_option(word: &[u8]) -> Option<SearchOption>
     requires { IsText word.now }
     ensures { result ≡ spec.search_option word.now }
@@ -87,7 +74,7 @@ impl Search {
         ensures { result ≡ spec.plain_search }
     {
         Search {
-            comparison: Comparison::Glob,
+            matching: Matching::Glob,
             nocase: false,
             negated: false,
             all: false,
@@ -97,12 +84,12 @@ impl Search {
 
     // The same after an option.
     fn with(self, option: SearchOption) -> Search
-        ensures { result ≡ spec.with_option self option }
+        ensures { result ≡ spec.with_search_option self option }
     {
         let mut search = self;
         match option {
-            SearchOption::Exact => search.comparison = Comparison::Exact,
-            SearchOption::Glob => search.comparison = Comparison::Glob,
+            SearchOption::Exact => search.matching = Matching::Exact,
+            SearchOption::Glob => search.matching = Matching::Glob,
             SearchOption::Nocase => search.nocase = true,
             SearchOption::Not => search.negated = true,
             SearchOption::All => search.all = true,
@@ -112,34 +99,28 @@ impl Search {
     }
 }
 
-// The option that a word is, which is made.
-fn made_option(store: &Store, at: usize) -> Option<SearchOption>
-    requires place { at < length store.now.stack }
-    requires made { IsMade store.now (Stack at) }
-    ensures { result ≡ spec.search_option (slice_index_or store.now.stack at []) }
+// The option that a word is.
+fn option_of(word: &[u8]) -> Option<SearchOption>
+    requires { IsText word.now }
+    ensures { result ≡ spec.search_option (chars word.now) }
 {
-    match store.text(At::Stack(at)) {
-        Some(word) => search_option(word),
-        None => unreachable!(),
-    }
+    search_option(word)
 }
 
-// What the options say after a word that must be one without a value.
-fn read_word(store: &mut Store, at: usize, search: Search) -> Result<Search, CmdFault>
-    requires { at < length store.old.stack }
-    ensures { Reads (spec.with_word (slice_index_or store.old.stack at []) search) (λ s x. x ≡ s)
-        store.old store.new result }
-{
-    make_word(store, at)?;
-    match made_option(store, at) {
-        Some(option) => Ok(search.with(option)),
-        None => Err(refuse_on(store, MessageId::BadOption, at, "NONE")),
+impl Settings for Search {
+    ghost after = { spec.search_after };
+
+    fn after(self, word: &[u8]) -> Option<Search> {
+        match option_of(word) {
+            Some(option) => Some(self.with(option)),
+            None => None,
+        }
     }
 }
 
 // What the options say, which are the words from one place up to another, and where the index is from which on
 // elements are looked for.
-fn read_options(
+fn search_options(
     store: &mut Store,
     call: usize,
     from: usize,
@@ -152,46 +133,17 @@ fn read_options(
         (take (to - from) (drop from store.old.stack))) (AreOptions store.old.stack)
         store.old store.new result }
 {
-    let mut search = Search::plain();
-    let mut start = None;
-    let mut at = from;
-    'words: while at < to {
-        if word_is(store, at, "-start")? {
-            if at + 1 == to {
-                return Err(refuse_count(store, call, " ?option ...? list pattern"));
-            }
-            check_index(store, at + 1)?;
-            start = Some(at + 1);
-            at += 2;
-        } else {
-            search = read_word(store, at, search)?;
-            at += 1;
-        }
-    }
-    Ok((search, start))
-}
-
-// Whether an element fits the pattern, which stands there as a text and by its code points.
-fn fits(search: Search, pattern: &[u8], points: &Points, text: &[u8]) -> bool
-    requires pattern { IsText pattern.now }
-    requires points { points.now ≡ folded search.nocase (chars pattern.now) }
-    requires text { IsText text.now }
-    ensures { result ≡ spec.fits search.comparison search.nocase (chars pattern.now) (chars text.now) }
-{
-    match search.comparison {
-        Comparison::Exact => points.are_of(text, search.nocase),
-        Comparison::Glob => glob_match(pattern, text, search.nocase),
-    }
+    let words = OptionWords { call, from, to };
+    read_options(store, words, Search::plain(), "-start", USAGE)
 }
 
 // Whether an element is one that is looked for.
-fn is_wanted(search: Search, pattern: &[u8], points: &Points, text: &[u8]) -> bool
+fn is_wanted(search: Search, pattern: &[u8], text: &[u8]) -> bool
     requires pattern { IsText pattern.now }
-    requires points { points.now ≡ folded search.nocase (chars pattern.now) }
     requires text { IsText text.now }
     ensures { result ≡ spec.is_wanted search (chars pattern.now) (chars text.now) }
 {
-    let found = fits(search, pattern, points, text);
+    let found = fits_pattern(search.matching, search.nocase, pattern, text);
     if search.negated { !found } else { found }
 }
 
@@ -225,12 +177,10 @@ fn push_found(
     store: &mut Store,
     search: Search,
     pattern: &[u8],
-    points: &Points,
     elements: &[Text],
     start: usize,
 ) -> Result<(), NoMemory>
     requires pattern { IsText pattern.now }
-    requires points { points.now ≡ folded search.nocase (chars pattern.now) }
     requires start { start ≤ length elements.now }
     ensures grows { Grows store.old store.new }
     ensures pushed { OnOk result (store.new.stack ≡ store.old.stack ++
@@ -238,7 +188,7 @@ fn push_found(
 {
     for k in start..elements.len() {
         let text = elements[k].bytes();
-        if is_wanted(search, pattern, points, text) {
+        if is_wanted(search, pattern, text) {
             push_one(store, search.inline, k, text)?;
         }
     }
@@ -250,12 +200,10 @@ fn push_first(
     store: &mut Store,
     search: Search,
     pattern: &[u8],
-    points: &Points,
     elements: &[Text],
     start: usize,
 ) -> Result<(), NoMemory>
     requires pattern { IsText pattern.now }
-    requires points { points.now ≡ folded search.nocase (chars pattern.now) }
     requires start { start ≤ length elements.now }
     ensures pushed { OnOk result (Pushes store.old (spec.first_or (spec.not_found search.inline)
         (map (spec.shown_as search.inline) (spec.wanted search (chars pattern.now) start elements.now))) store.new) }
@@ -263,7 +211,7 @@ fn push_first(
 {
     for k in start..elements.len() {
         let text = elements[k].bytes();
-        if is_wanted(search, pattern, points, text) {
+        if is_wanted(search, pattern, text) {
             return push_one(store, search.inline, k, text);
         }
     }
@@ -275,22 +223,20 @@ fn push_answer(
     store: &mut Store,
     search: Search,
     pattern: &[u8],
-    points: &Points,
     elements: &[Text],
     start: usize,
 ) -> Result<(), CmdFault>
     requires pattern { IsText pattern.now }
-    requires points { points.now ≡ folded search.nocase (chars pattern.now) }
     requires start { start ≤ length elements.now }
     ensures { Leaves (Gives (spec.found search.all search.inline
         (spec.wanted search (chars pattern.now) start elements.now))) store.old store.new result }
 {
     if !search.all {
-        push_first(store, search, pattern, points, elements, start)?;
+        push_first(store, search, pattern, elements, start)?;
         return Ok(());
     }
     let height = store.height();
-    push_found(store, search, pattern, points, elements, start)?;
+    push_found(store, search, pattern, elements, start)?;
     let all = store.height();
     store.push_list(all - height)?;
     Ok(())
@@ -326,15 +272,7 @@ fn push_searched(
     let elements = elements_of(store, list)?;
     let from = start_of(store, index, elements.all().len() as u64)?;
     let text = copy_of(store, pattern)?;
-    let points = points_of(store.allocator(), text.bytes(), search.nocase)?;
-    push_answer(
-        store,
-        search,
-        text.bytes(),
-        &points,
-        elements.all(),
-        from as usize,
-    )
+    push_answer(store, search, text.bytes(), elements.all(), from as usize)
 }
 
 // Pushes the answer of a call whose words stand from one place up to another.
@@ -345,7 +283,7 @@ fn push_search(store: &mut Store, call: usize, from: usize, to: usize) -> Result
     ensures { Leaves (spec.row_lsearch (slice_index_or store.old.stack call [])
         (take (to - from) (drop from store.old.stack))) store.old store.new result }
 {
-    let (search, index) = read_options(store, call, from, to - 2)?;
+    let (search, index) = search_options(store, call, from, to - 2)?;
     push_searched(store, search, index, to - 2, to - 1)
 }
 
@@ -360,7 +298,7 @@ pub fn cmd_lsearch(store: &mut Store, n: usize) -> Result<(), CmdFault>
         store.old store.new result }
 {
     if n < 2 {
-        return refuse_words(store, n, " ?option ...? list pattern");
+        return refuse_words(store, n, USAGE);
     }
     let height = store.height();
     let done = push_search(store, height - n - 1, height - n, height);

@@ -7,12 +7,11 @@ ghost use Rattle.tclv_value.specs.Stacks.{top};
 ghost use Rattle.tclv_value.specs.Changes.{KeepsTexts};
 ghost use Rattle.tclv_value.specs.View.{IsMade};
 ghost use Rattle.tclv_value.specs.declared.places.At.TheVariants.{Stack};
-ghost use Rattle.tclv_lists.specs.Replies.{call_word, Answers, Grows, Refused, Leaves, Reads};
+ghost use Rattle.tclv_reply.specs.Replies.{call_word, Answers, Grows, Refused, Leaves, Reads};
 ghost use Rattle.tclv_lists.specs.Sequences.{sequence_of, count_within, count_to, up_to, step_towards, whole_or, stepping, between, counting, is_literal, link_of, linked, behind_by, lseq_count, three_words, four_words, five_words, row_lseq, word_at};
 
-use crate::numbers::whole_of;
-use crate::replies::{make_word, refuse, refuse_count, settle};
 use tclv_model::{CmdFault, MessageId};
+use tclv_reply::{make_word, refuse, refuse_count, settle, whole_of};
 use tclv_value::{At, Store, ValueFault};
 
 // What a word of `lseq` says of the numbers beside it.
@@ -50,7 +49,8 @@ fn push_sequence(store: &mut Store, start: i64, step: i64, count: u128) -> Resul
     match store.push_seq(start, step, count as u64) {
         Ok(()) => Ok(()),
         Err(ValueFault::TooLarge) => Err(refuse_large(store)),
-        Err(_) => Err(CmdFault::NoMemory),
+        Err(ValueFault::NoMemory) => Err(CmdFault::NoMemory),
+        Err(_) => unreachable!(),
     }
 }
 

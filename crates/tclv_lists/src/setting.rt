@@ -9,16 +9,17 @@ ghost use Rattle.tclv_value.specs.Stacks.{top};
 ghost use Rattle.tclv_value.specs.Changes.{KeepsTexts, Pushes};
 ghost use Rattle.tclv_value.specs.View.{HasPlace, text_at};
 ghost use Rattle.tclv_value.specs.declared.places.At.TheVariants.{Stack, Cell};
-ghost use Rattle.tclv_lists.specs.Replies.{call_word, Grows, Refused, Reads, HasName, variable_of, VarAnswers};
+ghost use Rattle.tclv_reply.specs.Replies.{call_word, Grows, Refused, Reads, HasName, variable_of, VarAnswers};
 ghost use Rattle.tclv_lists.specs.Paths.{path_of, forms_of, put_along, Reaches};
-ghost use Rattle.tclv_lists.specs.Variables.{both, taken, place_in, IsPlaceIn, IsStored, Stores, lset_of, row_lset, lpop_of, row_lpop};
+ghost use Rattle.tclv_reply.specs.Variables.{both};
+ghost use Rattle.tclv_lists.specs.Variables.{taken, place_in, IsPlaceIn, IsStored, Stores, lset_of, row_lset, lpop_of, row_lpop};
 
-use crate::numbers::{check_index, place_inside, place_within};
 use crate::paths::read_path;
-use crate::replies::{push_ascii, push_bytes, push_word, push_words, refuse_words, settle};
-use crate::values::{list_len, refuse_list};
-use crate::variables::{give_text, set_cell};
 use tclv_model::{CmdFault, VarState};
+use tclv_reply::{
+    check_index, give_text, list_len, place_inside, place_within, push_ascii, push_bytes,
+    push_word, push_words, refuse_list, refuse_words, set_cell, settle,
+};
 use tclv_text::NoMemory;
 use tclv_value::{At, Store, ValueFault};
 

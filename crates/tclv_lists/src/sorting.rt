@@ -11,27 +11,24 @@ ghost use Rattle.tclv_model.specs.declared.messages.MessageId.TheVariants.{Missi
 ghost use Rattle.tclv_model.specs.Message.{text_of};
 ghost use Rattle.tclv_model.specs.Rows.{Gives, and_then};
 ghost use Rattle.tclv_model.specs.Values.{whole_of};
-ghost use Rattle.tclv_value.specs.View.{IsMade};
-ghost use Rattle.tclv_value.specs.declared.places.At.TheVariants.{Stack};
 ghost use Rattle.tclv_value.specs.Stacks.{top};
-ghost use Rattle.tclv_lists.specs.Replies.{call_word, Answers, Grows, Tells, Reads, Leaves};
-ghost use Rattle.tclv_lists.specs.Options.{AreOptions};
+ghost use Rattle.tclv_reply.specs.Replies.{call_word, Answers, Grows, Tells, Reads, Leaves};
+ghost use Rattle.tclv_reply.specs.Options.{AreOptions};
 ghost use Rattle.tclv_lists.specs.Sorting as spec;
 ghost use Rattle.tclv_lists.specs.Sorting.{AreEntries};
 
-use crate::elements::elements_of;
-use crate::numbers::{check_index, place_among};
-use crate::options::{copy_of, word_is};
 use crate::points::{Points, points_of};
-use crate::replies::{
-    make_word, push_ascii, push_bytes, push_message, push_word, refuse, refuse_count, refuse_on,
-    refuse_words, settle,
-};
 use std::alloc::Global;
 use std::cmp::Ordering;
 use tclv_model::{CmdFault, MessageId};
+use tclv_reply::{
+    OptionWords, Settings, copy_of, elements_of, place_among, push_all, push_ascii, push_message,
+    push_word, read_options, refuse, refuse_words, settle,
+};
 use tclv_text::{NoMemory, Text, WholeFault, as_str, whole};
-use tclv_value::{At, Store};
+use tclv_value::Store;
+
+const USAGE: &str = " ?option ...? list";
 
 /// As what keys are compared.
 #[derive(Clone, Copy, Debug, PartialEq, Eq)]
@@ -128,7 +125,7 @@ fn sort_entries(entries: &mut Vec<Entry>, direction: Direction) -> Result<(), No
     Ok(())
 }
 
-// The option that a word is.
+// The option of these bytes.
 fn order_option(word: &[u8]) -> Option<OrderOption>
     requires { IsText word.now }
     ensures { result ≡ spec.order_option word.now }
@@ -159,7 +156,7 @@ impl Order {
 
     // The same after an option.
     fn with(self, option: OrderOption) -> Order
-        ensures { result ≡ spec.with_option self option }
+        ensures { result ≡ spec.with_order_option self option }
     {
         let mut order = self;
         match option {
@@ -174,34 +171,28 @@ impl Order {
     }
 }
 
-// The option that a word is, which is made.
-fn made_option(store: &Store, at: usize) -> Option<OrderOption>
-    requires place { at < length store.now.stack }
-    requires made { IsMade store.now (Stack at) }
-    ensures { result ≡ spec.order_option (slice_index_or store.now.stack at []) }
+// The option that a word is.
+fn option_of(word: &[u8]) -> Option<OrderOption>
+    requires { IsText word.now }
+    ensures { result ≡ spec.order_option (chars word.now) }
 {
-    match store.text(At::Stack(at)) {
-        Some(word) => order_option(word),
-        None => unreachable!(),
-    }
+    order_option(word)
 }
 
-// What the options say after a word that must be one without a value.
-fn read_word(store: &mut Store, at: usize, order: Order) -> Result<Order, CmdFault>
-    requires { at < length store.old.stack }
-    ensures { Reads (spec.with_word (slice_index_or store.old.stack at []) order) (λ s x. x ≡ s)
-        store.old store.new result }
-{
-    make_word(store, at)?;
-    match made_option(store, at) {
-        Some(option) => Ok(order.with(option)),
-        None => Err(refuse_on(store, MessageId::BadOption, at, "NONE")),
+impl Settings for Order {
+    ghost after = { spec.order_after };
+
+    fn after(self, word: &[u8]) -> Option<Order> {
+        match option_of(word) {
+            Some(option) => Some(self.with(option)),
+            None => None,
+        }
     }
 }
 
 // What the options say, which are the words from one place up to another, and where the index is that names the
 // key in an element.
-fn read_options(
+fn order_options(
     store: &mut Store,
     call: usize,
     from: usize,
@@ -214,34 +205,8 @@ fn read_options(
         (take (to - from) (drop from store.old.stack))) (AreOptions store.old.stack)
         store.old store.new result }
 {
-    let mut order = Order::plain();
-    let mut index = None;
-    let mut at = from;
-    'words: while at < to {
-        if word_is(store, at, "-index")? {
-            if at + 1 == to {
-                return Err(refuse_count(store, call, " ?option ...? list"));
-            }
-            check_index(store, at + 1)?;
-            index = Some(at + 1);
-            at += 2;
-        } else {
-            order = read_word(store, at, order)?;
-            at += 1;
-        }
-    }
-    Ok((order, index))
-}
-
-// Pushes texts.
-fn push_texts(store: &mut Store, texts: &[Text]) -> Result<(), NoMemory>
-    ensures grows { Grows store.old store.new }
-    ensures pushed { OnOk result (store.new.stack ≡ store.old.stack ++ texts.now) }
-{
-    for text in texts {
-        push_bytes(store, text.bytes())?;
-    }
-    Ok(())
+    let words = OptionWords { call, from, to };
+    read_options(store, words, Order::plain(), "-index", USAGE)
 }
 
 // Pushes the message that an element has no element at an index, and the code NONE.
@@ -469,7 +434,7 @@ fn push_sorted(
 {
     let elements = elements_of(store, list)?;
     let from = store.height();
-    push_texts(store, elements.all())?;
+    push_all(store, elements.all())?;
     let to = store.height();
     push_order(store, order, index, from, to)
 }
@@ -482,7 +447,7 @@ fn push_sort(store: &mut Store, call: usize, from: usize, to: usize) -> Result<(
     ensures { Leaves (spec.row_lsort (slice_index_or store.old.stack call [])
         (take (to - from) (drop from store.old.stack))) store.old store.new result }
 {
-    let (order, index) = read_options(store, call, from, to - 1)?;
+    let (order, index) = order_options(store, call, from, to - 1)?;
     push_sorted(store, order, index, to - 1)
 }
 
@@ -498,7 +463,7 @@ pub fn cmd_lsort(store: &mut Store, n: usize) -> Result<(), CmdFault>
         store.old store.new result }
 {
     if n < 1 {
-        return refuse_words(store, n, " ?option ...? list");
+        return refuse_words(store, n, USAGE);
     }
     let height = store.height();
     let done = push_sort(store, height - n - 1, height - n, height);

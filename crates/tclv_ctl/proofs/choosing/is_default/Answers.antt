@@ -1,5 +1,5 @@
 use Rattle.std.proofs.Common.{◌∙◌}
-use Rattle.tclv_ctl.proofs.FoldLemmas.{is_default_word}
+use Rattle.tclv_ctl.proofs.TextLemmas.{is_default_word}
 use Rattle.tclv_ctl.proofs.choosing.is_default.Goals as goal
 
 pub returns : goal.returns

@@ -4,11 +4,9 @@ use Rattle.tclv_model.specs.Rows.{Answer, RowAnswer, Gives, and_then}
 use Rattle.tclv_model.specs.Values.{list_of}
 use Rattle.tclv_value.specs.Stacks.{top}
 use Rattle.tclv_value.specs.Lists.{replaced}
-use Rattle.tclv_lists.specs.Replies.{call_word}
+use Rattle.tclv_reply.specs.Replies.{call_word}
 use Rattle.tclv_lists.specs.Changing.{Gap, gap_before, filled, inserted_of, row_linsert}
-use Rattle.tclv_lists.proofs.ReplyLemmas.{answered, answers_as}
-use Rattle.tclv_lists.proofs.StepLemmas.{begun, read_on, leaves_there, answers_on}
-use Rattle.tclv_lists.proofs.WordLemmas.{count_words, two_and_more}
+use Rattle.tclv_reply.proofs.Laws.{answered, answers_as, begun, read_on, leaves_there, answers_on, count_words, two_and_more}
 use Rattle.tclv_lists.proofs.RowLemmas.{linsert_count}
 use Rattle.tclv_lists.proofs.changing.cmd_linsert.Goals as goal
 

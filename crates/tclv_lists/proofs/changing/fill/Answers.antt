@@ -4,8 +4,7 @@ use Rattle.tclv_model.specs.Rows.{RowAnswer, Gives, and_then}
 use Rattle.tclv_model.specs.Values.{list_of}
 use Rattle.tclv_value.specs.Stacks.{top}
 use Rattle.tclv_value.specs.Lists.{replaced}
-use Rattle.tclv_lists.proofs.ReplyLemmas.{answered}
-use Rattle.tclv_lists.proofs.StepLemmas.{kept_on, leaves_refused}
+use Rattle.tclv_reply.proofs.Laws.{answered, kept_on, leaves_refused}
 use Rattle.tclv_lists.proofs.changing.fill.Goals as goal
 
 pub returns-in-Err : goal.returns-in-Err

@@ -1,6 +1,6 @@
 use Rattle.std.proofs.Common.{rules, ◌-◌, ◌+◌, List, ℕ, [], take, drop, get_or, sym, ap, arith}
 use Rattle.tclv_model.specs.Values.{place_of}
-use Rattle.tclv_lists.proofs.StepLemmas.{read_on, refused_there}
+use Rattle.tclv_reply.proofs.Laws.{read_on, refused_there}
 use Rattle.tclv_lists.proofs.RemoveLemmas.{rest_of, marked_step, one_marked, reads_refused}
 use Rattle.tclv_lists.proofs.changing.mark_places.Goals as goal
 

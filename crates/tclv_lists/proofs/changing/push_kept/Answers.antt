@@ -1,6 +1,6 @@
 use Rattle.std.proofs.Common.{arith}
 use Rattle.tclv_text.specs.Spans.{span_text}
-use Rattle.tclv_lists.proofs.ReplyLemmas.{grows_trans}
+use Rattle.tclv_reply.proofs.Laws.{grows_trans}
 use Rattle.tclv_lists.proofs.RemoveLemmas.{kept_more}
 use Rattle.tclv_lists.proofs.changing.push_kept.Goals as goal
 

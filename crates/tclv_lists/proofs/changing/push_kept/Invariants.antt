@@ -2,7 +2,7 @@ use Rattle.std.proofs.Common.{◌≡◌, ◌++◌, List, length, map, take}
 use Rattle.std.specs.Prelude.{ℤ}
 use Rattle.tclv_text.specs.Spans.{span_text}
 use Rattle.tclv_lists.specs.Changing.{IsMarked, without_from}
-use Rattle.tclv_lists.specs.Replies.{Grows}
+use Rattle.tclv_reply.specs.Replies.{Grows}
 use Rattle.tclv_lists.proofs.changing.push_kept.Given as goal
 
 -- So many elements are looked at.

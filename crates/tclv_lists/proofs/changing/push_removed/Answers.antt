@@ -6,9 +6,7 @@ use Rattle.tclv_model.specs.Rows.{RowAnswer, Gives, and_then}
 use Rattle.tclv_model.specs.Values.{list_of}
 use Rattle.tclv_value.specs.Stacks.{top}
 use Rattle.tclv_lists.specs.Changing.{places_of, without_from, removed_of}
-use Rattle.tclv_lists.proofs.ReplyLemmas.{grows_trans}
-use Rattle.tclv_lists.proofs.StepLemmas.{begun, read_on, went_kept}
-use Rattle.tclv_lists.proofs.MakingLemmas.{words_part, leaves_list}
+use Rattle.tclv_reply.proofs.Laws.{grows_trans, begun, read_on, went_kept, words_part, leaves_list}
 use Rattle.tclv_lists.proofs.JoinLemmas.{elements_given}
 use Rattle.tclv_lists.proofs.RemoveLemmas.{marked_as}
 use Rattle.tclv_lists.proofs.changing.push_removed.Goals as goal

@@ -1,6 +1,6 @@
 use Rattle.std.proofs.Common.{ap, ◌∙◌}
 use Rattle.std.specs.Str.{chars}
-use Rattle.tclv_lists.proofs.ReplyLemmas.{appended_to_none}
+use Rattle.tclv_reply.proofs.Laws.{appended_to_none}
 use Rattle.tclv_lists.proofs.RemoveLemmas.{unmarked_pushed}
 use Rattle.tclv_lists.proofs.changing.push_unmarked.Goals as goal
 

@@ -1,6 +1,6 @@
 use Rattle.std.proofs.Common.{ℕ, List, ◌++◌, [], ◌∷◌, ap, ◌∙◌, refl}
 use Rattle.std.specs.Str.{chars}
-use Rattle.tclv_lists.proofs.TextLemmas.{ascii_points}
+use Rattle.tclv_reply.proofs.Laws.{ascii_points}
 use Rattle.tclv_lists.proofs.JoinLemmas.{added_none, added_after, added_on, no_points, none_there, some_there}
 use Rattle.tclv_lists.proofs.joining.add_spaced.Goals as goal
 

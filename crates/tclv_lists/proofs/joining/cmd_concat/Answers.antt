@@ -1,5 +1,5 @@
 use Rattle.std.proofs.Common.{◌≤◌, arith}
-use Rattle.tclv_lists.proofs.ReplyLemmas.{answered}
+use Rattle.tclv_reply.proofs.Laws.{answered}
 use Rattle.tclv_lists.proofs.joining.cmd_concat.Goals as goal
 
 pub returns : goal.returns

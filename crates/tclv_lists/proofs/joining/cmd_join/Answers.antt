@@ -1,9 +1,8 @@
 use Rattle.std.proofs.Common.{◌≡◌, ◌≢◌, ◌≤◌, ◌-◌, ℕ, [], length, get_or, ap, sym, ◌∙◌, arith}
 use Rattle.tclv_value.specs.Stacks.{top}
-use Rattle.tclv_lists.specs.Replies.{call_word}
+use Rattle.tclv_reply.specs.Replies.{call_word}
 use Rattle.tclv_lists.specs.Joining.{joined_of, row_join}
-use Rattle.tclv_lists.proofs.ReplyLemmas.{answered, answers_as}
-use Rattle.tclv_lists.proofs.WordLemmas.{count_words, one_word, two_words}
+use Rattle.tclv_reply.proofs.Laws.{answered, answers_as, count_words, one_word, two_words}
 use Rattle.tclv_lists.proofs.RowLemmas.{join_count}
 use Rattle.tclv_lists.proofs.joining.cmd_join.Goals as goal
 

@@ -2,10 +2,9 @@ use Rattle.std.proofs.Common.{◌≡◌, ◌≢◌, ◌≤◌, ◌-◌, ℕ, Lis
 use Rattle.tclv_text.specs.Quotes.{list_text}
 use Rattle.tclv_model.specs.Rows.{RowAnswer, Gives}
 use Rattle.tclv_value.specs.Stacks.{top}
-use Rattle.tclv_lists.specs.Replies.{call_word}
+use Rattle.tclv_reply.specs.Replies.{call_word}
 use Rattle.tclv_lists.specs.Joining.{split_parts, row_split}
-use Rattle.tclv_lists.proofs.ReplyLemmas.{answered, answers_as}
-use Rattle.tclv_lists.proofs.WordLemmas.{count_words, one_word, two_words}
+use Rattle.tclv_reply.proofs.Laws.{answered, answers_as, count_words, one_word, two_words}
 use Rattle.tclv_lists.proofs.RowLemmas.{split_count}
 use Rattle.tclv_lists.proofs.joining.cmd_split.Goals as goal
 

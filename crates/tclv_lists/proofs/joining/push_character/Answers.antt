@@ -1,7 +1,7 @@
 use Rattle.std.proofs.Common.{List, ℕ, [], ◌∷◌, ◌++◌, ap, ◌∙◌}
 use Rattle.std.specs.Str.{chars}
 use Rattle.std.proofs.lemmas.Str.{chars-nil}
-use Rattle.tclv_lists.proofs.ReplyLemmas.{pushed_as}
+use Rattle.tclv_reply.proofs.Laws.{pushed_as}
 use Rattle.tclv_lists.proofs.joining.push_character.Goals as goal
 
 pub returns-clause-pushed : goal.returns-clause-pushed

@@ -2,7 +2,7 @@ use Rattle.std.proofs.Common.{◌∙◌, refl, sym, ap, arith}
 use Rattle.std.proofs.lemmas.Str.{chars-nil}
 use Rattle.std.specs.Str.{chars}
 use Rattle.tclv_lists.specs.Joining.{concatenated}
-use Rattle.tclv_lists.proofs.ReplyLemmas.{keeps_trans, grows_step}
+use Rattle.tclv_reply.proofs.Laws.{keeps_trans, grows_step}
 use Rattle.tclv_lists.proofs.JoinLemmas.{no_words_yet, one_more_word}
 use Rattle.tclv_lists.proofs.joining.push_concatenated.Goals as goal
 

@@ -5,7 +5,7 @@ use Rattle.tclv_text.specs.Elements.{elements}
 use Rattle.tclv_model.specs.Rows.{RowAnswer, Gives}
 use Rattle.tclv_model.specs.Values.{list_of}
 use Rattle.tclv_lists.specs.Joining.{joined, joined_of}
-use Rattle.tclv_lists.proofs.StepLemmas.{begun, read_on, went_kept, leaves_text}
+use Rattle.tclv_reply.proofs.Laws.{begun, read_on, went_kept, leaves_text}
 use Rattle.tclv_lists.proofs.JoinLemmas.{elements_given}
 use Rattle.tclv_lists.proofs.joining.push_joined.Goals as goal
 

@@ -4,7 +4,7 @@ use Rattle.std.proofs.lemmas.Str.{chars-nil}
 use Rattle.std.proofs.lemmas.Iterator.{YieldsList-from_chars}
 use Rattle.std.proofs.lemmas.Iterator.Consumers.{YieldsList-end}
 use Rattle.tclv_lists.specs.Joining.{is_one_of}
-use Rattle.tclv_lists.proofs.ReplyLemmas.{grows_none, grows_trans, grows_more}
+use Rattle.tclv_reply.proofs.Laws.{grows_none, grows_trans, grows_more}
 use Rattle.tclv_lists.proofs.SplitLemmas.{all_yielded, parts_done}
 use Rattle.tclv_lists.proofs.joining.push_parts.Goals as goal
 

@@ -1,5 +1,5 @@
 use Rattle.std.proofs.Common.{rules}
-use Rattle.tclv_lists.proofs.ReplyLemmas.{leaves_out_of_memory, grows_kept, keeps_trans}
+use Rattle.tclv_reply.proofs.Laws.{leaves_out_of_memory, grows_kept, keeps_trans}
 use Rattle.tclv_lists.proofs.joining.push_parts_of.Goals as goal
 
 pub returns-in_err-between : goal.returns-in_err-between

@@ -1,6 +1,6 @@
 use Rattle.std.proofs.Common.{ℕ, List, [], length, codes, get_or, ◌-◌, ap, sym, ◌∙◌}
 use Rattle.tclv_lists.specs.Joining.{joined_of}
-use Rattle.tclv_lists.proofs.ReplyLemmas.{leaves_after, grows_pushed}
+use Rattle.tclv_reply.proofs.Laws.{leaves_after, grows_pushed}
 use Rattle.tclv_lists.proofs.JoinLemmas.{pushed_pair}
 use Rattle.tclv_lists.proofs.joining.push_spaced.Goals as goal
 

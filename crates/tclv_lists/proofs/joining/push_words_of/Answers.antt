@@ -3,8 +3,7 @@ use Rattle.std.specs.Str.{chars}
 use Rattle.tclv_text.specs.Quotes.{list_text}
 use Rattle.tclv_model.specs.Rows.{RowAnswer, Gives}
 use Rattle.tclv_lists.specs.Joining.{split_parts}
-use Rattle.tclv_lists.proofs.TextLemmas.{ascii_points}
-use Rattle.tclv_lists.proofs.ReplyLemmas.{leaves_after, grows_kept}
+use Rattle.tclv_reply.proofs.Laws.{ascii_points, leaves_after, grows_kept}
 use Rattle.tclv_lists.proofs.joining.push_words_of.Goals as goal
 
 pub returns : goal.returns

@@ -1,8 +1,7 @@
 use Rattle.std.proofs.Common.{◌≤◌, [], ap, arith}
-use Rattle.tclv_lists.specs.Replies.{call_word}
+use Rattle.tclv_reply.specs.Replies.{call_word}
 use Rattle.tclv_lists.specs.Making.{row_lrepeat}
-use Rattle.tclv_lists.proofs.ReplyLemmas.{answered, answers_as}
-use Rattle.tclv_lists.proofs.WordLemmas.{first_word}
+use Rattle.tclv_reply.proofs.Laws.{answered, answers_as, first_word}
 use Rattle.tclv_lists.proofs.making.cmd_lrepeat.Goals as goal
 
 pub returns : goal.returns

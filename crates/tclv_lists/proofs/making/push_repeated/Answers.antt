@@ -3,9 +3,7 @@ use Rattle.tclv_text.specs.Quotes.{list_text}
 use Rattle.tclv_model.specs.Rows.{RowAnswer, Gives, and_then}
 use Rattle.tclv_value.specs.Stacks.{top}
 use Rattle.tclv_lists.specs.Making.{times, count_of}
-use Rattle.tclv_lists.proofs.ReplyLemmas.{grows_trans}
-use Rattle.tclv_lists.proofs.StepLemmas.{begun, read_on}
-use Rattle.tclv_lists.proofs.MakingLemmas.{words_part, leaves_list}
+use Rattle.tclv_reply.proofs.Laws.{grows_trans, begun, read_on, words_part, leaves_list}
 use Rattle.tclv_lists.proofs.making.push_repeated.Goals as goal
 
 pub returns : goal.returns

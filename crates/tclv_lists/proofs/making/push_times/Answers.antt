@@ -1,5 +1,5 @@
 use Rattle.std.proofs.Common.{◌≡◌, ◌-◌, ◌∙◌, List, ℕ, ◌++◌, take, drop, sym, ap, append-nil, arith}
-use Rattle.tclv_lists.proofs.ReplyLemmas.{grows_trans}
+use Rattle.tclv_reply.proofs.Laws.{grows_trans}
 use Rattle.tclv_lists.proofs.MakingLemmas.{times_none, times_more}
 use Rattle.tclv_lists.proofs.making.push_times.Goals as goal
 

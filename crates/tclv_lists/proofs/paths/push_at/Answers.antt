@@ -2,11 +2,9 @@ use Rattle.std.proofs.Common.{◌≡◌, ◌<◌, ◌≤◌, ◌-◌, ◌+◌, �
 use Rattle.std.proofs.lemmas.List.{get_or_push, length_push}
 use Rattle.tclv_model.specs.Rows.{RowAnswer, Gives}
 use Rattle.tclv_value.specs.View.{View}
-use Rattle.tclv_lists.specs.Replies.{Grows}
+use Rattle.tclv_reply.specs.Replies.{Grows}
 use Rattle.tclv_lists.specs.Paths.{checked, element_at, WentInto}
-use Rattle.tclv_lists.proofs.ReplyLemmas.{grows_trans, refused_after, leaves_after}
-use Rattle.tclv_lists.proofs.MakingLemmas.{part_kept}
-use Rattle.tclv_lists.proofs.PathLemmas.{words_step, word_kept}
+use Rattle.tclv_reply.proofs.Laws.{grows_trans, refused_after, leaves_after, part_kept, words_step, word_kept}
 use Rattle.tclv_lists.proofs.paths.push_at.Goals as goal
 
 -- the row at a step, where the index is read from the stack of that time

@@ -1,5 +1,5 @@
 use Rattle.std.proofs.Common.{◌≡◌, ◌-◌, ◌<◌, [], length, take, drop, get_or}
-use Rattle.tclv_lists.specs.Replies.{Grows}
+use Rattle.tclv_reply.specs.Replies.{Grows}
 use Rattle.tclv_lists.specs.Paths.{element_at}
 use Rattle.tclv_lists.proofs.paths.push_at.Given as goal
 

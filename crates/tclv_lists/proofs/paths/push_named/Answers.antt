@@ -1,7 +1,6 @@
 use Rattle.std.proofs.Common.{◌∙◌, ◌-◌, List, ℕ, [], take, drop, get_or, sym, ap}
 use Rattle.tclv_lists.specs.Paths.{element_at}
-use Rattle.tclv_lists.proofs.ReplyLemmas.{leaves_after}
-use Rattle.tclv_lists.proofs.PathLemmas.{word_kept}
+use Rattle.tclv_reply.proofs.Laws.{leaves_after, word_kept}
 use Rattle.tclv_lists.proofs.paths.push_named.Goals as goal
 
 pub returns : goal.returns

@@ -5,8 +5,7 @@ use Rattle.std.specs.Prelude.{ℤ}
 use Rattle.tclv_model.specs.Rows.{RowAnswer, Gives}
 use Rattle.tclv_model.specs.Values.{place_of}
 use Rattle.tclv_lists.specs.Paths.{checked}
-use Rattle.tclv_lists.proofs.StepLemmas.{read_on, leaves_there, leaves_text}
-use Rattle.tclv_lists.proofs.PathLemmas.{words_step, went_as}
+use Rattle.tclv_reply.proofs.Laws.{read_on, leaves_there, leaves_text, went_as, words_step}
 use Rattle.tclv_lists.proofs.paths.push_past.Goals as goal
 
 pub returns-in-Err : goal.returns-in-Err

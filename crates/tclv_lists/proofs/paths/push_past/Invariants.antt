@@ -1,7 +1,7 @@
 use Rattle.std.proofs.Common.{◌-◌, [], take, drop}
 use Rattle.tclv_model.specs.Rows.{RowAnswer, Gives}
 use Rattle.tclv_lists.specs.Paths.{checked}
-use Rattle.tclv_lists.proofs.StepLemmas.{Went}
+use Rattle.tclv_reply.proofs.Laws.{Went}
 use Rattle.tclv_lists.proofs.paths.push_past.Given as goal
 
 abbrev pub invariant-loop-at : goal.invariant-loop-at

@@ -1,10 +1,8 @@
 use Rattle.std.proofs.Common.{◌≤◌, ◌-◌, ◌+◌, ◌∙◌, ℕ, [], List, length, take, drop, get_or, ap, sym, arith}
-use Rattle.tclv_lists.specs.Replies.{call_word}
+use Rattle.tclv_reply.specs.Replies.{call_word}
 use Rattle.tclv_lists.specs.Paths.{path_of, element_at}
 use Rattle.tclv_lists.specs.Reading.{row_lindex}
-use Rattle.tclv_lists.proofs.ReplyLemmas.{answered, answers_as}
-use Rattle.tclv_lists.proofs.WordLemmas.{first_word}
-use Rattle.tclv_lists.proofs.MakingLemmas.{words_part}
+use Rattle.tclv_reply.proofs.Laws.{answered, answers_as, first_word, words_part}
 use Rattle.tclv_lists.proofs.reading.cmd_lindex.Goals as goal
 
 pub returns : goal.returns

@@ -1,9 +1,8 @@
 use Rattle.std.proofs.Common.{◌≡◌, ◌≤◌, ◌-◌, ◌∙◌, ℕ, [], length, get_or, ap, sym, arith}
 use Rattle.tclv_value.specs.Stacks.{top}
-use Rattle.tclv_lists.specs.Replies.{call_word}
+use Rattle.tclv_reply.specs.Replies.{call_word}
 use Rattle.tclv_lists.specs.Reading.{range_of, row_lrange}
-use Rattle.tclv_lists.proofs.ReplyLemmas.{answered, answers_as, room}
-use Rattle.tclv_lists.proofs.WordLemmas.{count_words, three_words}
+use Rattle.tclv_reply.proofs.Laws.{answered, answers_as, room, count_words, three_words}
 use Rattle.tclv_lists.proofs.RowLemmas.{lrange_count}
 use Rattle.tclv_lists.proofs.reading.cmd_lrange.Goals as goal
 

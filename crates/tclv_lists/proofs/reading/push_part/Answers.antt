@@ -3,8 +3,8 @@ use Rattle.std.specs.Prelude.{ℤ, pos, ◌+ℤ◌}
 use Rattle.tclv_text.specs.Quotes.{list_text}
 use Rattle.tclv_model.specs.Rows.{Answer, RowAnswer, Gives, and_then}
 use Rattle.tclv_model.specs.Values.{list_of, place_of, raised}
-use Rattle.tclv_lists.specs.Reading.{range_of, between}
-use Rattle.tclv_lists.proofs.StepLemmas.{begun, read_on, leaves_on}
+use Rattle.tclv_lists.specs.Reading.{range_of, elements_between}
+use Rattle.tclv_reply.proofs.Laws.{begun, read_on, leaves_on}
 use Rattle.tclv_lists.proofs.ClipLemmas.{clipped_part}
 use Rattle.tclv_lists.proofs.reading.push_part.Goals as goal
 
@@ -13,7 +13,7 @@ returns c =
     let s = c.args.store.now in
     let t : ℕ → List ℕ = λ k. get_or s.stack k [] in
     let l = t c.args.list in
-    let rest : List (List ℕ) → ℤ → ℤ → RowAnswer = λ ts a b. Gives (list_text (between ts a b)) in
+    let rest : List (List ℕ) → ℤ → ℤ → RowAnswer = λ ts a b. Gives (list_text (elements_between ts a b)) in
     let third : List (List ℕ) → ℤ → RowAnswer = λ ts a. and_then (place_of (t c.args.last) (length ts)) (rest ts a) in
     let second : List (List ℕ) → RowAnswer = λ ts. and_then (place_of (t c.args.first) (length ts)) (third ts) in
     let r1 = read_on (list_of l) second (begun (range_of l (t c.args.first) (t c.args.last)) s) (list_of l) refl c.in_ok-len.ensures in

@@ -1,8 +1,8 @@
 use Rattle.std.proofs.Common.{◌≤◌, ◌-◌, ◌∙◌, ℕ, [], length, take, drop, get_or, ap, sym, arith}
 use Rattle.std.proofs.lemmas.List.{take_rest}
-use Rattle.tclv_lists.specs.Replies.{call_word}
+use Rattle.tclv_reply.specs.Replies.{call_word}
 use Rattle.tclv_lists.specs.Searching.{row_lsearch}
-use Rattle.tclv_lists.proofs.ReplyLemmas.{answered, answers_as}
+use Rattle.tclv_reply.proofs.Laws.{answered, answers_as}
 use Rattle.tclv_lists.proofs.searching.cmd_lsearch.Goals as goal
 
 pub returns : goal.returns

@@ -1,6 +1,6 @@
 use Rattle.std.proofs.Common.{◌≡◌, ◌++◌, map}
 use Rattle.std.specs.Str.{chars}
-use Rattle.tclv_lists.specs.Replies.{Grows}
+use Rattle.tclv_reply.specs.Replies.{Grows}
 use Rattle.tclv_lists.specs.Searching.{shown_as, wanted}
 use Rattle.tclv_lists.proofs.searching.push_found.Given as goal
 

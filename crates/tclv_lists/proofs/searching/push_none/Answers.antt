@@ -2,7 +2,7 @@ use Rattle.std.proofs.Common.{sym, ap, ◌∙◌, []}
 use Rattle.std.specs.Str.{chars}
 use Rattle.std.proofs.lemmas.Str.{chars-nil}
 use Rattle.tclv_lists.specs.Searching.{not_found}
-use Rattle.tclv_lists.proofs.ReplyLemmas.{pushed_as}
+use Rattle.tclv_reply.proofs.Laws.{pushed_as}
 use Rattle.tclv_lists.proofs.searching.push_none.Goals as goal
 
 pub returns-then-inline-clause-pushed : goal.returns-then-inline-clause-pushed

@@ -2,11 +2,10 @@ use Rattle.std.proofs.Common.{◌∙◌, ◌-◌, ℕ, List, [], take, drop, get
 use Rattle.std.specs.Prelude.{Option}
 use Rattle.std.specs.Option.{option_map}
 use Rattle.tclv_model.specs.Rows.{RowAnswer}
-use Rattle.tclv_lists.specs.Options.{Options}
+use Rattle.tclv_reply.specs.Options.{Options}
 use Rattle.tclv_lists.specs.declared.searching.Search.{Search}
 use Rattle.tclv_lists.specs.Searching.{search_options, searched, row_lsearch}
-use Rattle.tclv_lists.proofs.StepLemmas.{begun, read_on, leaves_on}
-use Rattle.tclv_lists.proofs.PathLemmas.{went_as}
+use Rattle.tclv_reply.proofs.Laws.{begun, read_on, leaves_on, went_as}
 use Rattle.tclv_lists.proofs.SearchLemmas.{lsearch_row}
 use Rattle.tclv_lists.proofs.searching.push_search.Goals as goal
 
@@ -20,7 +19,7 @@ returns c =
     let w = went_as _ (begun (row_lsearch call (take (to - from) (drop from s.stack))) s) (lsearch_row call s.stack from to c.requires.words c.requires.within) in
     let options = search_options call (take (to - 2 - from) (drop from s.stack)) in
     let r = read_on options f w options refl c.in_ok-search.ensures in
-    let mid = c.read_options.new.store.stack in
+    let mid = c.search_options.new.store.stack in
     let search = c.in_ok-search.search in
     let index = c.in_ok-search.index in
     let row : List (List ℕ) → RowAnswer = λ q. searched search (option_map (λ k. get_or q k []) index) (get_or q (to - 2) []) (get_or q (to - 1) []) in

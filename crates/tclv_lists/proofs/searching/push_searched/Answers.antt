@@ -4,8 +4,7 @@ use Rattle.std.specs.Str.{chars}
 use Rattle.tclv_model.specs.Rows.{RowAnswer, Gives, and_then}
 use Rattle.tclv_model.specs.Values.{list_of}
 use Rattle.tclv_lists.specs.Searching.{start_of, found, wanted, searched}
-use Rattle.tclv_lists.proofs.StepLemmas.{begun, read_on, leaves_on}
-use Rattle.tclv_lists.proofs.OptionSteps.{went_kept}
+use Rattle.tclv_reply.proofs.Laws.{begun, read_on, leaves_on, went_kept}
 use Rattle.tclv_lists.proofs.SearchLemmas.{wanted_clipped}
 use Rattle.tclv_lists.proofs.searching.push_searched.Goals as goal
 
@@ -28,7 +27,7 @@ returns c =
     (ap (λ (q : List (List ℕ)). start_of (named q) (length ts)) (sym r1.went.same) ∙ ap (λ (us : List (List ℕ)). start_of (named s1) (length us)) all_is) c.in_ok-from.ensures in
     let n = r2.value in
     let w = went_kept r2.went c.in_ok-text.ensures.kept in
-    let pattern : p ≡ chars c.bytes-2.result.now = ap (λ (q : List (List ℕ)). get_or q c.args.pattern []) (sym r2.went.same) ∙ sym c.in_ok-text.ensures.text ∙ sym c.bytes-2.ensures.text in
+    let pattern : p ≡ chars c.bytes.result.now = ap (λ (q : List (List ℕ)). get_or q c.args.pattern []) (sym r2.went.same) ∙ sym c.in_ok-text.ensures.text ∙ sym c.bytes.ensures.text in
     let same = sym (wanted_clipped search p n ts)
     ∙ ap (λ (us : List (List ℕ)). wanted search p (min n (length us)) ts) all_is
     ∙ ap (λ (k : ℕ). wanted search p k ts) (sym r2.shown)

@@ -1,6 +1,6 @@
 use Rattle.std.proofs.Common.{◌∙◌, List, ℕ, [], get_or, ap, sym}
 use Rattle.std.specs.Str.{bytes_eq}
-use Rattle.tclv_lists.proofs.TextLemmas.{bytes_are}
+use Rattle.tclv_reply.proofs.Laws.{bytes_are}
 use Rattle.tclv_lists.proofs.sequences.is_literal.Goals as goal
 
 pub returns : goal.returns

@@ -2,7 +2,7 @@ use Rattle.std.proofs.Common.{◌-◌, ◌∙◌, List, ℕ, [], Some, get_or, s
 use Rattle.tclv_model.specs.Rows.{RowAnswer}
 use Rattle.tclv_lists.specs.declared.sequences.Link.{Link}
 use Rattle.tclv_lists.specs.Sequences.{link_of, linked, between, behind_by, lseq_count, four_words}
-use Rattle.tclv_lists.proofs.StepLemmas.{kept_on, leaves_on}
+use Rattle.tclv_reply.proofs.Laws.{kept_on, leaves_on}
 use Rattle.tclv_lists.proofs.sequences.push_four.Goals as goal
 
 pub returns-in-By : goal.returns-in-By

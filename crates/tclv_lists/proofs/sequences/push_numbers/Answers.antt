@@ -1,9 +1,8 @@
 use Rattle.std.proofs.Common.{◌≡◌, ◌-◌, ◌∙◌, List, ℕ, [], None, length, get_or, sym, ap, arith}
 use Rattle.tclv_value.specs.Stacks.{top}
-use Rattle.tclv_lists.specs.Replies.{call_word}
+use Rattle.tclv_reply.specs.Replies.{call_word}
 use Rattle.tclv_lists.specs.Sequences.{counting, between, three_words, four_words, five_words, lseq_count, row_lseq}
-use Rattle.tclv_lists.proofs.StepLemmas.{begun, leaves_on}
-use Rattle.tclv_lists.proofs.WordLemmas.{one_word, two_words, three_words as three_top, count_words}
+use Rattle.tclv_reply.proofs.Laws.{begun, leaves_on, one_word, two_words, count_words, three_words as three_top}
 use Rattle.tclv_lists.proofs.SequenceLemmas.{four_top, five_top, lseq_other}
 use Rattle.tclv_lists.proofs.sequences.push_numbers.Goals as goal
 

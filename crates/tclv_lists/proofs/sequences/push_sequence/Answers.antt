@@ -6,8 +6,7 @@ use Rattle.tclv_value.specs.declared.faults.ValueFault.{ValueFault}
 use Rattle.tclv_value.specs.declared.faults.ValueFault.TheVariants as value
 use Rattle.tclv_value.specs.Sequences.{sequence, IsInWords, RefusesSequence}
 use Rattle.tclv_lists.specs.Sequences.{sequence_of}
-use Rattle.tclv_lists.proofs.ReplyLemmas.{grows_kept, grows_trans, refused_after}
-use Rattle.tclv_lists.proofs.StepLemmas.{begun, leaves_text}
+use Rattle.tclv_reply.proofs.Laws.{grows_kept, grows_trans, refused_after, begun, leaves_text}
 use Rattle.tclv_lists.proofs.SequenceLemmas.{in_words, out_of_words, read_back}
 use Rattle.tclv_lists.proofs.sequences.push_sequence.Goals as goal
 

@@ -3,8 +3,7 @@ use Rattle.std.specs.Prelude.{ℤ}
 use Rattle.tclv_model.specs.Rows.{Answer}
 use Rattle.tclv_model.specs.Values.{place_of}
 use Rattle.tclv_lists.specs.Paths.{forms_of}
-use Rattle.tclv_lists.proofs.StepLemmas.{read_on, refused_there}
-use Rattle.tclv_lists.proofs.PathLemmas.{words_step, went_as}
+use Rattle.tclv_reply.proofs.Laws.{read_on, refused_there, went_as, words_step}
 use Rattle.tclv_lists.proofs.setting.check_indices.Goals as goal
 
 pub returns-in-Err : goal.returns-in-Err

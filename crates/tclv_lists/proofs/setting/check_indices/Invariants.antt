@@ -1,6 +1,6 @@
 use Rattle.std.proofs.Common.{◌-◌, take, drop}
 use Rattle.tclv_lists.specs.Paths.{forms_of}
-use Rattle.tclv_lists.proofs.StepLemmas.{Went}
+use Rattle.tclv_reply.proofs.Laws.{Went}
 use Rattle.tclv_lists.proofs.setting.check_indices.Given as goal
 
 abbrev pub invariant-loop-at : goal.invariant-loop-at

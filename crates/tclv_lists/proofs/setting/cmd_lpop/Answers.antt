@@ -1,11 +1,10 @@
 use Rattle.std.proofs.Common.{◌≤◌, ◌-◌, ◌∙◌, List, ℕ, [], get_or, sym, ap, arith}
 use Rattle.std.specs.Prelude.{codes}
 use Rattle.tclv_value.specs.Stacks.{top}
-use Rattle.tclv_lists.specs.Replies.{call_word, variable_of}
+use Rattle.tclv_reply.specs.Replies.{call_word, variable_of}
 use Rattle.tclv_lists.specs.Variables.{lpop_of, row_lpop}
-use Rattle.tclv_lists.proofs.WordLemmas.{one_word, two_words, count_words}
+use Rattle.tclv_reply.proofs.Laws.{one_word, two_words, count_words, var_as}
 use Rattle.tclv_lists.proofs.StoredLemmas.{stored, stored_room, var_count, lpop_count}
-use Rattle.tclv_lists.proofs.VariableLemmas.{var_as}
 use Rattle.tclv_lists.proofs.setting.cmd_lpop.Goals as goal
 
 pub returns-then-n-eq1 : goal.returns-then-n-eq1

@@ -2,12 +2,11 @@ use Rattle.std.proofs.Common.{◌≡◌, ◌≤◌, ◌+◌, ◌-◌, ◌∙◌,
 use Rattle.std.specs.Prelude.{codes}
 use Rattle.std.proofs.lemmas.List.{get_or-drop}
 use Rattle.tclv_value.specs.Stacks.{top}
-use Rattle.tclv_lists.specs.Replies.{call_word, variable_of}
+use Rattle.tclv_reply.specs.Replies.{call_word, variable_of}
 use Rattle.tclv_lists.specs.Paths.{path_of}
 use Rattle.tclv_lists.specs.Variables.{lset_of, row_lset}
-use Rattle.tclv_lists.proofs.WordLemmas.{first_word, count_words}
+use Rattle.tclv_reply.proofs.Laws.{first_word, count_words, var_as}
 use Rattle.tclv_lists.proofs.StoredLemmas.{stored, stored_room, var_count, lset_count, lset_words}
-use Rattle.tclv_lists.proofs.VariableLemmas.{var_as}
 use Rattle.tclv_lists.proofs.setting.cmd_lset.Goals as goal
 
 pub returns-then-n-lt2 : goal.returns-then-n-lt2

@@ -2,10 +2,9 @@ use Rattle.std.proofs.Common.{◌∷◌, ◌∙◌, List, ℕ, [], get_or, sym, 
 use Rattle.std.specs.Prelude.{codes}
 use Rattle.std.proofs.lemmas.List.{get_or_push}
 use Rattle.tclv_model.specs.Rows.{Variable}
-use Rattle.tclv_lists.specs.Replies.{variable_of}
+use Rattle.tclv_reply.specs.Replies.{variable_of}
 use Rattle.tclv_lists.specs.Variables.{lpop_of}
-use Rattle.tclv_lists.proofs.ReplyLemmas.{grows_pushed}
-use Rattle.tclv_lists.proofs.PathLemmas.{word_kept}
+use Rattle.tclv_reply.proofs.Laws.{grows_pushed, word_kept}
 use Rattle.tclv_lists.proofs.StoredLemmas.{stores_after}
 use Rattle.tclv_lists.proofs.AlongLemmas.{variable_kept}
 use Rattle.tclv_lists.proofs.setting.pop_last.Goals as goal

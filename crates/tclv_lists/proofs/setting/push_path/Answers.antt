@@ -1,4 +1,4 @@
-use Rattle.tclv_lists.proofs.ReplyLemmas.{grows_pushed, grows_trans}
+use Rattle.tclv_reply.proofs.Laws.{grows_pushed, grows_trans}
 use Rattle.tclv_lists.proofs.setting.push_path.Goals as goal
 
 pub returns-clause-grows : goal.returns-clause-grows

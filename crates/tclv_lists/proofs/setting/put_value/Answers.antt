@@ -4,10 +4,8 @@ use Rattle.tclv_model.specs.declared.data_commands.VarState.TheVariants as var
 use Rattle.tclv_value.specs.View.{text_at}
 use Rattle.tclv_value.specs.declared.places.At.TheVariants.{Cell}
 use Rattle.tclv_lists.specs.Paths.{put_along}
-use Rattle.tclv_lists.specs.Variables.{both}
-use Rattle.tclv_lists.proofs.ReplyLemmas.{grows_trans, refused_on, refused_after}
-use Rattle.tclv_lists.proofs.StepLemmas.{cells_text}
-use Rattle.tclv_lists.proofs.MakingLemmas.{part_kept}
+use Rattle.tclv_reply.specs.Variables.{both}
+use Rattle.tclv_reply.proofs.Laws.{grows_trans, refused_on, refused_after, cells_text, part_kept}
 use Rattle.tclv_lists.proofs.StoredLemmas.{stores_refused}
 use Rattle.tclv_lists.proofs.setting.put_value.Goals as goal
 

@@ -3,8 +3,7 @@ use Rattle.std.proofs.lemmas.List.{get_or_push}
 use Rattle.tclv_value.specs.View.{text_at}
 use Rattle.tclv_value.specs.declared.places.At.TheVariants.{Cell}
 use Rattle.tclv_lists.specs.Paths.{put_along}
-use Rattle.tclv_lists.proofs.ReplyLemmas.{grows_pushed, refused_after}
-use Rattle.tclv_lists.proofs.MakingLemmas.{part_kept}
+use Rattle.tclv_reply.proofs.Laws.{grows_pushed, refused_after, part_kept}
 use Rattle.tclv_lists.proofs.setting.refuse_along.Goals as goal
 
 pub returns-in-Err-walk_along-clause-refused : goal.returns-in-Err-walk_along-clause-refused

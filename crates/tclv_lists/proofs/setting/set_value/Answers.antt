@@ -7,12 +7,11 @@ use Rattle.tclv_model.specs.declared.data_commands.VarState.{VarState}
 use Rattle.tclv_model.specs.declared.data_commands.VarState.TheVariants as var
 use Rattle.tclv_value.specs.View.{text_at}
 use Rattle.tclv_value.specs.declared.places.At.TheVariants.{Cell}
-use Rattle.tclv_lists.specs.Replies.{variable_of}
+use Rattle.tclv_reply.specs.Replies.{variable_of}
 use Rattle.tclv_lists.specs.Paths.{path_of, forms_of, put_along}
-use Rattle.tclv_lists.specs.Variables.{both, text_of_set, lset_of, Stores}
-use Rattle.tclv_lists.proofs.ReplyLemmas.{grows_trans}
-use Rattle.tclv_lists.proofs.StepLemmas.{begun, read_on, refused_there}
-use Rattle.tclv_lists.proofs.PathLemmas.{word_kept}
+use Rattle.tclv_reply.specs.Variables.{both, text_of_set}
+use Rattle.tclv_lists.specs.Variables.{lset_of, Stores}
+use Rattle.tclv_reply.proofs.Laws.{grows_trans, begun, read_on, refused_there, word_kept}
 use Rattle.tclv_lists.proofs.StoredLemmas.{stores_after, stores_refused}
 use Rattle.tclv_lists.proofs.AlongLemmas.{checked_first, variable_kept}
 use Rattle.tclv_lists.proofs.setting.set_value.Goals as goal

@@ -4,7 +4,7 @@ use Rattle.tclv_value.specs.View.{text_at}
 use Rattle.tclv_value.specs.declared.places.At.TheVariants.{Cell}
 use Rattle.tclv_text.specs.Elements.{elements}
 use Rattle.tclv_lists.specs.Variables.{taken}
-use Rattle.tclv_lists.proofs.ReplyLemmas.{grows_trans, grows_kept}
+use Rattle.tclv_reply.proofs.Laws.{grows_trans, grows_kept}
 use Rattle.tclv_lists.proofs.PathLemmas.{grows_element}
 use Rattle.tclv_lists.proofs.AlongLemmas.{taken_stored, cell_refused}
 use Rattle.tclv_lists.proofs.setting.take_element.Goals as goal

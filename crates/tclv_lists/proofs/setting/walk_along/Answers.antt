@@ -4,10 +4,9 @@ use Rattle.tclv_text.specs.Quotes.{list_text}
 use Rattle.tclv_model.specs.Rows.{RowAnswer, Gives, Refuses, and_then}
 use Rattle.tclv_value.specs.View.{View}
 use Rattle.tclv_value.specs.Paths.{put_at}
-use Rattle.tclv_lists.specs.Replies.{Grows}
+use Rattle.tclv_reply.specs.Replies.{Grows}
 use Rattle.tclv_lists.specs.Paths.{put_along}
-use Rattle.tclv_lists.proofs.ReplyLemmas.{grows_trans, refused_on, refused_after}
-use Rattle.tclv_lists.proofs.PathLemmas.{words_step, word_kept}
+use Rattle.tclv_reply.proofs.Laws.{grows_trans, refused_on, refused_after, words_step, word_kept}
 use Rattle.tclv_lists.proofs.AlongLemmas.{wrapped}
 use Rattle.tclv_lists.proofs.setting.walk_along.Goals as goal
 

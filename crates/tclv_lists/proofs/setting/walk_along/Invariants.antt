@@ -1,6 +1,6 @@
 use Rattle.std.proofs.Common.{◌≡◌, ◌-◌, ◌<◌, List, ℕ, [], length, take, drop, get_or}
 use Rattle.tclv_model.specs.Rows.{Gives, and_then}
-use Rattle.tclv_lists.specs.Replies.{Grows}
+use Rattle.tclv_reply.specs.Replies.{Grows}
 use Rattle.tclv_lists.specs.Paths.{put_along}
 use Rattle.tclv_lists.proofs.setting.walk_along.Given as goal
 

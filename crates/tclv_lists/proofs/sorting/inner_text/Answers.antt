@@ -5,13 +5,12 @@ use Rattle.tclv_model.specs.declared.messages.MessageId.TheVariants.{MissingSubl
 use Rattle.tclv_model.specs.Message.{text_of}
 use Rattle.tclv_model.specs.Rows.{RowAnswer, Gives, and_then, says}
 use Rattle.tclv_model.specs.Values.{list_of, place_of}
-use Rattle.tclv_lists.specs.Paths.{element, place_among}
+use Rattle.tclv_lists.specs.Paths.{element}
+use Rattle.tclv_reply.specs.Places.{place_among}
 use Rattle.tclv_lists.specs.Sorting.{key_text}
-use Rattle.tclv_lists.proofs.ReplyLemmas.{grows_trans, refused_after}
-use Rattle.tclv_lists.proofs.StepLemmas.{begun, read_on}
+use Rattle.tclv_reply.proofs.Laws.{grows_trans, refused_after, begun, read_on, told_refused, reads_refused}
 use Rattle.tclv_lists.proofs.PathLemmas.{element_among}
-use Rattle.tclv_lists.proofs.GivenLemmas.{element_none, told_refused}
-use Rattle.tclv_lists.proofs.OptionSteps.{reads_refused}
+use Rattle.tclv_lists.proofs.GivenLemmas.{element_none}
 use Rattle.tclv_lists.proofs.sorting.inner_text.Goals as goal
 
 pub returns : goal.returns

@@ -1,11 +1,10 @@
 use Rattle.std.proofs.Common.{◌≡◌, ◌∙◌, ◌+◌, ◌<◌, ℕ, List, [], ◌∷◌, ◌++◌, true, length, drop, map, get_or, sym, ap, subst, append_assoc}
 use Rattle.std.proofs.lemmas.List.Elements.{All-get_or}
 use Rattle.tclv_value.specs.View.{View}
-use Rattle.tclv_lists.specs.Replies.{Grows}
+use Rattle.tclv_reply.specs.Replies.{Grows}
 use Rattle.tclv_lists.specs.declared.sorting.Entry.{Entry}
 use Rattle.tclv_lists.specs.Sorting.{text_in, given, entry_before}
-use Rattle.tclv_lists.proofs.ReplyLemmas.{grows_trans, grows_pushed}
-use Rattle.tclv_lists.proofs.PathLemmas.{word_kept}
+use Rattle.tclv_reply.proofs.Laws.{grows_trans, grows_pushed, word_kept}
 use Rattle.tclv_lists.proofs.GivenLemmas.{given_step, passed}
 use Rattle.tclv_lists.proofs.sorting.push_given.Goals as goal
 use Rattle.tclv_lists.proofs.sorting.push_given.Goals.{then-is_given+in_ok-push_word, else-is_given}

@@ -1,5 +1,5 @@
 use Rattle.std.proofs.Common.{◌≡◌, ◌++◌, map, drop}
-use Rattle.tclv_lists.specs.Replies.{Grows}
+use Rattle.tclv_reply.specs.Replies.{Grows}
 use Rattle.tclv_lists.specs.Sorting.{text_in, given, entry_before}
 use Rattle.tclv_lists.proofs.sorting.push_given.Given as goal
 

@@ -1,4 +1,4 @@
-use Rattle.tclv_lists.proofs.ReplyLemmas.{grows_kept, grows_trans}
+use Rattle.tclv_reply.proofs.Laws.{grows_kept, grows_trans}
 use Rattle.tclv_lists.proofs.sorting.push_missing.Goals as goal
 
 pub returns-in_err-second-clause-grows : goal.returns-in_err-second-clause-grows

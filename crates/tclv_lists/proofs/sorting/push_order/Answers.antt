@@ -7,9 +7,7 @@ use Rattle.tclv_model.specs.Rows.{RowAnswer, Gives, and_then}
 use Rattle.tclv_lists.specs.declared.sorting.Key.{Key}
 use Rattle.tclv_lists.specs.declared.sorting.Entry.{Entry}
 use Rattle.tclv_lists.specs.Sorting.{keyed, given, in_order, entry_before, text_in, sorted_texts}
-use Rattle.tclv_lists.proofs.ReplyLemmas.{grows_trans}
-use Rattle.tclv_lists.proofs.StepLemmas.{begun, read_on}
-use Rattle.tclv_lists.proofs.MakingLemmas.{leaves_list}
+use Rattle.tclv_reply.proofs.Laws.{grows_trans, begun, read_on, leaves_list}
 use Rattle.tclv_lists.proofs.GivenLemmas.{sorted_mapped}
 use Rattle.tclv_lists.proofs.sorting.push_order.Goals as goal
 

@@ -3,11 +3,10 @@ use Rattle.std.specs.Prelude.{Option}
 use Rattle.std.specs.Option.{option_map}
 use Rattle.std.proofs.lemmas.Result.{err_from_is_err_and}
 use Rattle.tclv_model.specs.Rows.{RowAnswer}
-use Rattle.tclv_lists.specs.Options.{Options}
+use Rattle.tclv_reply.specs.Options.{Options}
 use Rattle.tclv_lists.specs.declared.sorting.Order.{Order}
 use Rattle.tclv_lists.specs.Sorting.{order_options, sorted_of, row_lsort}
-use Rattle.tclv_lists.proofs.StepLemmas.{begun, read_on, leaves_on, leaves_there}
-use Rattle.tclv_lists.proofs.PathLemmas.{went_as}
+use Rattle.tclv_reply.proofs.Laws.{begun, read_on, leaves_on, leaves_there, went_as}
 use Rattle.tclv_lists.proofs.GivenLemmas.{lsort_row}
 use Rattle.tclv_lists.proofs.sorting.push_sort.Goals as goal
 
@@ -33,7 +32,7 @@ returns c =
     let w = went_as _ (begun (row_lsort call (take (to - from) (drop from s.stack))) s) (lsort_row call s.stack from to c.requires.words c.requires.within) in
     let options = order_options call (take (to - 1 - from) (drop from s.stack)) in
     let r = read_on options f w options refl c.in_ok-order.ensures in
-    let mid = c.read_options.new.store.stack in
+    let mid = c.order_options.new.store.stack in
     let order = c.in_ok-order.order in
     let index = c.in_ok-order.index in
     let row : List (List ℕ) → RowAnswer = λ q. sorted_of order (option_map (λ k. get_or q k []) index) (get_or q (to - 1) []) in

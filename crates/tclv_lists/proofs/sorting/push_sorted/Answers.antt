@@ -5,8 +5,7 @@ use Rattle.tclv_text.specs.Quotes.{list_text}
 use Rattle.tclv_model.specs.Rows.{RowAnswer, Gives, and_then}
 use Rattle.tclv_model.specs.Values.{list_of}
 use Rattle.tclv_lists.specs.Sorting.{keyed, sorted_texts, sorted_of}
-use Rattle.tclv_lists.proofs.ReplyLemmas.{grows_trans, leaves_after}
-use Rattle.tclv_lists.proofs.StepLemmas.{begun, read_on}
+use Rattle.tclv_reply.proofs.Laws.{grows_trans, leaves_after, begun, read_on}
 use Rattle.tclv_lists.proofs.GivenLemmas.{part_above, index_kept}
 use Rattle.tclv_lists.proofs.sorting.push_sorted.Goals as goal
 
@@ -20,8 +19,8 @@ returns c =
     let f : List (List ℕ) → Option (List ℕ) → RowAnswer = λ ts i. and_then (keyed o i ts) (λ es. Gives (list_text (sorted_texts o es))) in
     let r = read_on (list_of l) (λ ts. f ts (named s)) (begun (sorted_of o (named s) l) old) (list_of l) refl c.in_ok-elements.ensures in
     let one = c.elements_of.new.store in
-    let mid = c.push_texts.new.store in
-    let p = c.in_ok-push_texts.ensures in
+    let mid = c.push_all.new.store in
+    let p = c.in_ok-push_all.ensures in
     let g = grows_trans old one mid r.went.grows p.grows in
     let words = part_above one.stack mid.stack c.all.result.now c.height-from.result c.height-to.result p.pushed c.height-from.ensures c.height-to.ensures in
     let same = ap (λ (ts : List (List ℕ)). f ts (named s)) (sym r.shown ∙ sym c.all.ensures ∙ sym words)

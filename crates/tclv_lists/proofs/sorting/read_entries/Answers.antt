@@ -7,10 +7,8 @@ use Rattle.tclv_model.specs.Rows.{Answer, Gives, and_then}
 use Rattle.tclv_lists.specs.declared.sorting.Key.{Key}
 use Rattle.tclv_lists.specs.declared.sorting.Entry.{Entry}
 use Rattle.tclv_lists.specs.Sorting.{key_of, keyed, pair_of}
-use Rattle.tclv_lists.proofs.StepLemmas.{read_on, refused_there}
-use Rattle.tclv_lists.proofs.PathLemmas.{words_step, went_as}
+use Rattle.tclv_reply.proofs.Laws.{read_on, refused_there, went_as, words_step, reads_refused}
 use Rattle.tclv_lists.proofs.GivenLemmas.{keyed_more}
-use Rattle.tclv_lists.proofs.OptionSteps.{reads_refused}
 use Rattle.tclv_lists.proofs.sorting.read_entries.Goals as goal
 
 pub returns-in-Err : goal.returns-in-Err

@@ -4,7 +4,7 @@ use Rattle.std.specs.Option.{option_map}
 use Rattle.tclv_model.specs.Rows.{Gives, and_then}
 use Rattle.tclv_lists.specs.declared.sorting.Key.{Key}
 use Rattle.tclv_lists.specs.Sorting.{keyed, pair_of}
-use Rattle.tclv_lists.proofs.StepLemmas.{Went}
+use Rattle.tclv_reply.proofs.Laws.{Went}
 use Rattle.tclv_lists.proofs.sorting.read_entries.Given as goal
 
 -- So many keys are read, and the elements behind are still to be read.

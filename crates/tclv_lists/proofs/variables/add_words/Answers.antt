@@ -6,9 +6,10 @@ use Rattle.std.specs.FinMap.{get}
 use Rattle.tclv_value.specs.View.{text_at}
 use Rattle.tclv_value.specs.declared.places.At.TheVariants.{Cell}
 use Rattle.tclv_value.specs.Stacks.{top}
-use Rattle.tclv_lists.specs.Variables.{both, appended}
-use Rattle.tclv_lists.proofs.WordLemmas.{count_words}
-use Rattle.tclv_lists.proofs.VariableLemmas.{added_to_none, no_text, some_added, var_as}
+use Rattle.tclv_reply.specs.Variables.{both}
+use Rattle.tclv_lists.specs.Variables.{appended}
+use Rattle.tclv_reply.proofs.Laws.{count_words, no_text, var_as}
+use Rattle.tclv_lists.proofs.VariableLemmas.{added_to_none, some_added}
 use Rattle.tclv_lists.proofs.variables.add_words.Goals as goal
 
 pub returns-then-not-is_set : goal.returns-then-not-is_set

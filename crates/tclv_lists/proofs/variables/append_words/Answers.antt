@@ -11,10 +11,9 @@ use Rattle.tclv_value.specs.declared.places.At.TheVariants.{Cell}
 use Rattle.tclv_value.specs.Stacks.{top, under}
 use Rattle.tclv_value.specs.Lists.{replaced}
 use Rattle.tclv_value.specs.Changes.{Puts}
-use Rattle.tclv_lists.specs.Variables.{both}
-use Rattle.tclv_lists.proofs.ReplyLemmas.{refused_on, refused_after, grows_trans, grows_kept}
-use Rattle.tclv_lists.proofs.StepLemmas.{cells_text}
-use Rattle.tclv_lists.proofs.VariableLemmas.{cell_there, cell_text, list_known, replaced_behind, under_under, var_given, var_refused}
+use Rattle.tclv_reply.specs.Variables.{both}
+use Rattle.tclv_reply.proofs.Laws.{refused_on, refused_after, grows_trans, grows_kept, cells_text, cell_there, cell_text, var_given, var_refused, list_known, under_under}
+use Rattle.tclv_lists.proofs.VariableLemmas.{replaced_behind}
 use Rattle.tclv_lists.proofs.variables.append_words.Goals as goal
 use Rattle.tclv_lists.proofs.variables.append_words.Goals.{In-Ok-list_replace}
 

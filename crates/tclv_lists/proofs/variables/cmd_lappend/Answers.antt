@@ -9,11 +9,10 @@ use Rattle.tclv_model.specs.declared.data_commands.VarState.TheVariants as var
 use Rattle.tclv_value.specs.View.{text_at}
 use Rattle.tclv_value.specs.declared.places.At.TheVariants.{Cell}
 use Rattle.tclv_value.specs.Stacks.{top}
-use Rattle.tclv_lists.specs.Replies.{call_word, variable_of, VarAnswers}
-use Rattle.tclv_lists.specs.Variables.{value_of, both, appended, row_lappend}
-use Rattle.tclv_lists.proofs.WordLemmas.{first_word}
-use Rattle.tclv_lists.proofs.StepLemmas.{begun, read_on, refused_there}
-use Rattle.tclv_lists.proofs.VariableLemmas.{var_as, var_on, var_refused}
+use Rattle.tclv_reply.specs.Replies.{call_word, variable_of, VarAnswers}
+use Rattle.tclv_reply.specs.Variables.{value_of, both}
+use Rattle.tclv_lists.specs.Variables.{appended, row_lappend}
+use Rattle.tclv_reply.proofs.Laws.{first_word, begun, read_on, refused_there, var_as, var_on, var_refused}
 use Rattle.tclv_lists.proofs.variables.cmd_lappend.Goals as goal
 
 pub returns-in-Ok : goal.returns-in-Ok

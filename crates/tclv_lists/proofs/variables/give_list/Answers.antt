@@ -4,10 +4,8 @@ use Rattle.tclv_model.specs.Values.{list_of}
 use Rattle.tclv_model.specs.declared.data_commands.VarState.TheVariants as var
 use Rattle.tclv_value.specs.View.{text_at}
 use Rattle.tclv_value.specs.declared.places.At.TheVariants.{Cell}
-use Rattle.tclv_lists.specs.Variables.{both}
-use Rattle.tclv_lists.proofs.ReplyLemmas.{refused_on}
-use Rattle.tclv_lists.proofs.StepLemmas.{cells_text}
-use Rattle.tclv_lists.proofs.VariableLemmas.{cell_kept, var_given, var_refused}
+use Rattle.tclv_reply.specs.Variables.{both}
+use Rattle.tclv_reply.proofs.Laws.{refused_on, cells_text, cell_kept, var_given, var_refused}
 use Rattle.tclv_lists.proofs.variables.give_list.Goals as goal
 
 pub returns-in-Ok : goal.returns-in-Ok

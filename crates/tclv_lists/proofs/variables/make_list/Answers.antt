@@ -4,8 +4,8 @@ use Rattle.tclv_model.specs.declared.data_commands.VarState.TheVariants as var
 use Rattle.tclv_value.specs.View.{text_at}
 use Rattle.tclv_value.specs.declared.places.At.TheVariants.{Cell}
 use Rattle.tclv_value.specs.Stacks.{top}
-use Rattle.tclv_lists.specs.Variables.{both}
-use Rattle.tclv_lists.proofs.VariableLemmas.{cell_there, cell_text, var_given}
+use Rattle.tclv_reply.specs.Variables.{both}
+use Rattle.tclv_reply.proofs.Laws.{cell_there, cell_text, var_given}
 use Rattle.tclv_lists.proofs.variables.make_list.Goals as goal
 
 pub give_text-requires-clause-cell : goal.give_text-requires-clause-cell

@@ -1,5 +1,0 @@
-use Rattle.tclv_lists.proofs.ReplyLemmas.{pushes}
-use Rattle.tclv_lists.proofs.replies.push_bytes.Goals as goal
-
-pub returns-clause-pushed : goal.returns-clause-pushed
-returns-clause-pushed c = pushes c.push_text.result c.args.store.now c.push_text.new.self _ c.push_text.ensures.pushed c.push_text.ensures.cells c.push_text.ensures.keeps

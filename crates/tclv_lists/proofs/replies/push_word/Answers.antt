@@ -1,5 +1,0 @@
-use Rattle.tclv_lists.proofs.ReplyLemmas.{pushes}
-use Rattle.tclv_lists.proofs.replies.push_word.Goals as goal
-
-pub returns-clause-pushed : goal.returns-clause-pushed
-returns-clause-pushed c = pushes c.push_copy.result c.args.store.now c.push_copy.new.self _ c.push_copy.ensures.pushed c.push_copy.ensures.cells c.push_copy.ensures.keeps

@@ -1,7 +1,0 @@
-use Rattle.std.proofs.Common.{◌∙◌, ap}
-use Rattle.tclv_lists.specs.Shown.{is_shown}
-use Rattle.tclv_lists.proofs.ShownLemmas.{sign_shown}
-use Rattle.tclv_lists.proofs.values.begins_shown.Goals as goal
-
-pub returns : goal.returns
-returns c = c.is_shown.ensures ∙ ap is_shown c.peek.ensures ∙ sign_shown c.args.at.now

@@ -1,0 +1,13 @@
+mod StackLemmas
+mod ReplyLemmas
+mod TextLemmas
+mod ShownLemmas
+mod WordLemmas
+mod StepLemmas
+mod ListLemmas
+mod MakingLemmas
+mod VariableLemmas
+mod OptionLemmas
+mod OptionSteps
+mod FoldLemmas
+pub mod Laws
