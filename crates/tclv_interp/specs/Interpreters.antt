@@ -1,6 +1,6 @@
 -- What contracts see of an interpreter, and what its evaluation of a script answers.
-use Rattle.std.specs.Prelude.{◌≡◌, ℕ, ◌+◌, ◌<◌, ◌≤◌, Bool, true, false, List, [], ◌++◌, length, slice_index_or, if◌then◌else◌, Some, Result, Ok, Err}
-use Rattle.std.specs.FinMap.{empty}
+use Rattle.std.specs.Prelude.{◌≡◌, ℕ, ◌+◌, ◌≤◌, Bool, true, false, List, [], ◌++◌, length, slice_index_or, if◌then◌else◌, Some, Result, Ok, Err}
+use Rattle.std.specs.FinMap.{empty, get}
 use Rattle.tclv_io.specs.World.{World}
 use Rattle.tclv_io.specs.Causes.{Rose}
 use Rattle.tclv_io.specs.Events.{Event, after_all, partly, next_length}
@@ -9,18 +9,20 @@ use Rattle.tclv_model.specs.declared.outcomes.Code.TheVariants as code
 use Rattle.tclv_model.specs.declared.outcomes.Pair.{Pair}
 use Rattle.tclv_value.specs.View.{text_at}
 use Rattle.tclv_value.specs.declared.places.At.{At}
-use Rattle.tclv_vars.specs.Table.{no_variables}
+use Rattle.tclv_vars.specs.Table.{Table, no_variables, HoldsArray}
 use Rattle.tclv_interp.specs.declared.interpreters.Interp.{Interp}
 use Rattle.tclv_interp.specs.declared.interpreters.Stop.{Stop}
 use Rattle.tclv_interp.specs.declared.interpreters.Stop.TheVariants as stop
-use Rattle.tclv_interp.specs.declared.machine.Machine.{Machine}
-use Rattle.tclv_interp.specs.State.{Text, State, state_of}
-use Rattle.tclv_interp.specs.Results.{Ending, Done, Left, Budget, Exit, Res, Outcome, plain_options}
-use Rattle.tclv_parse.specs.Grammar.{commands}
-use Rattle.tclv_interp.specs.declared.endings.End.{End}
-use Rattle.tclv_interp.specs.declared.endings.End.TheVariants as end
-use Rattle.tclv_interp.specs.Evaluation.{Eval}
-use Rattle.tclv_interp.specs.Answers.{Outer, code_of, options_of, last_of}
+use Rattle.tclv_engine.specs.declared.machine.Machine.{Machine}
+use Rattle.tclv_engine.specs.State.{Text, state_of}
+use Rattle.tclv_engine.specs.Results.{Ending, Done, Left, Budget, Exit, Outcome, carried}
+use Rattle.tclv_engine.specs.declared.endings.Carried.{Carried}
+use Rattle.tclv_engine.specs.declared.endings.End.{End}
+use Rattle.tclv_engine.specs.declared.endings.End.TheVariants as end
+use Rattle.tclv_engine.specs.Evaluation.{text, whole}
+use Rattle.tclv_interp.specs.declared.commands.Tables.{Tables}
+use Rattle.tclv_interp.specs.Commands.{State, Res, shell}
+use Rattle.tclv_engine.specs.Answers.{Outer, code_of, options_of, last_of}
 
 -- the state of an interpreter over a world
 abbrev pub state_over : Interp → World → State
@@ -28,7 +30,15 @@ state_over i w = state_of i.machine w
 
 -- the state of a new interpreter: no variables, and all units
 abbrev pub blank : ℕ → World → State
-blank budget w = record { vars = no_variables; texts = empty; world = w; events = 0; units = budget; depth = 0 }
+blank budget w = record { vars = no_variables; texts = empty; own = record {}; world = w; events = 0; units = budget; depth = 0 }
+
+-- no variable is an array
+abbrev pub HasNoArrays : Table → Type 0
+HasNoArrays t = (cell : ℕ) → HoldsArray (get t.contents cell) → ⊥
+
+-- the variables of an interpreter
+abbrev pub variables_of : Interp → Table
+variables_of i = i.machine.values.vars
 
 -- how many events there were
 abbrev pub writes_of : Interp → ℕ
@@ -50,9 +60,9 @@ options_at i = i.options
 abbrev pub is_stopped : Interp → Bool
 is_stopped i = i.stopped
 
--- The evaluation of a text as a script, from a state. A command takes a unit before its inner scripts run, so the units left are bound enough.
+-- the evaluation of a text as a script, from a state
 abbrev pub evaluation : Text → State → Res Outcome
-evaluation t st = Eval st.units (commands t) st
+evaluation t st = text (whole shell) t st
 
 -- ---- what an evaluation answers
 
@@ -64,14 +74,14 @@ EndsWith Budget c text options = ⊥
 EndsWith (Exit n) c text options = ⊥
 
 -- All of the computation happened from a world on, and no write failed: the state after is its state, and its events are counted.
-pub record Happened (m : Res Outcome) (w : World) (torn events : ℕ) (after : Machine) (v : World) (now : ℕ) : Type 0 where
+pub record Happened (m : Res Outcome) (w : World) (torn events : ℕ) (after : (Machine Tables)) (v : World) (now : ℕ) : Type 0 where
   pub state : m.after ≡ state_of after v
   pub out : v.out ≡ after_all w.out m.events
   pub whole : now ≡ torn
   pub counted : after.writes ≡ events + length m.events
 
 -- The first events of the computation happened, and `part` bytes of the next, which are what a failed write took.
-pub record CutShort (m : Res Outcome) (w : World) (torn events part : ℕ) (after : Machine) (v : World) (now : ℕ) : Type 0 where
+pub record CutShort (m : Res Outcome) (w : World) (torn events part : ℕ) (after : (Machine Tables)) (v : World) (now : ℕ) : Type 0 where
   pub first : List Event
   pub rest : List Event
   pub split : m.events ≡ first ++ rest
@@ -81,7 +91,7 @@ pub record CutShort (m : Res Outcome) (w : World) (torn events part : ℕ) (afte
   pub counted : after.writes ≡ events + length first
 
 -- what each answer says of the computation; a code comes with a result and options
-abbrev pub Says : Res Outcome → World → ℕ → ℕ → Result Code Stop → Text → List Pair → Machine → World → ℕ → Type 0
+abbrev pub Says : Res Outcome → World → ℕ → ℕ → Result Code Stop → Text → List Pair → (Machine Tables) → World → ℕ → Type 0
 Says m w torn events (Ok c) text options after v now = EndsWith m.ending c text options × Happened m w torn events after v now
 Says m w torn events (Err stop.Budget) text options after v now = (m.ending ≡ Budget) × Happened m w torn events after v now
 Says m w torn events (Err (stop.Exit n)) text options after v now = (m.ending ≡ Exit n) × Happened m w torn events after v now
@@ -90,7 +100,7 @@ Says m w torn events (Err stop.Memory) text options after v now = CutShort m w t
 Says m w torn events (Err stop.Stopped) text options after v now = ⊥
 
 -- The evaluation answers as the computation says, from a world that was told, and the outside still tells.
-pub record Evaluates (m : Res Outcome) (w : World) (torn events : ℕ) (r : Result Code Stop) (text : Text) (options : List Pair) (after : Machine) (now : Outer) : Type 0 where
+pub record Evaluates (m : Res Outcome) (w : World) (torn events : ℕ) (r : Result Code Stop) (text : Text) (options : List Pair) (after : (Machine Tables)) (now : Outer) : Type 0 where
   pub world : World
   pub told : now.told ≡ Some world
   pub says : Says m w torn events r text options after world now.torn
@@ -111,21 +121,12 @@ StopsAt (Err s) after = is_stopped after ≡ true
 
 -- How the answer of an interpreter shows how a script ended: a code with its result, which was the top text, and its options; or the stop. Want of
 -- memory may come in place of a code.
-abbrev pub Shows : {T : Type 0} → Result T End → List Text → Result Code Stop → Text → List Pair → Type 0
-Shows (Ok t) stack (Ok c) text options = (c ≡ code.Ok) × (text ≡ last_of stack) × (options ≡ plain_options)
-Shows (Ok t) stack (Err s) text options = s ≡ stop.Memory
+abbrev pub Shows : Result Carried End → List Text → Result Code Stop → Text → List Pair → Type 0
+Shows (Ok kept) stack (Ok c) text options = (c ≡ code.Ok) × (text ≡ last_of stack) × (options ≡ carried code.Ok kept)
+Shows (Ok kept) stack (Err s) text options = s ≡ stop.Memory
 Shows (Err (end.Left l)) stack (Ok c) text options = (c ≡ code_of l) × (text ≡ last_of stack) × (options ≡ options_of l)
 Shows (Err (end.Left l)) stack (Err s) text options = s ≡ stop.Memory
 Shows (Err end.Budget) stack r text options = r ≡ Err stop.Budget
 Shows (Err (end.Exit n)) stack r text options = r ≡ Err (stop.Exit n)
 Shows (Err end.Device) stack r text options = r ≡ Err stop.Device
 Shows (Err end.Memory) stack r text options = r ≡ Err stop.Memory
-
--- A script that ended with a code left its result above this height.
-abbrev pub HasResult : {T : Type 0} → ℕ → Result T End → List Text → Type 0
-HasResult height (Ok t) stack = height < length stack
-HasResult height (Err (end.Left l)) stack = height < length stack
-HasResult height (Err end.Budget) stack = Unit {0}
-HasResult height (Err (end.Exit n)) stack = Unit {0}
-HasResult height (Err end.Device) stack = Unit {0}
-HasResult height (Err end.Memory) stack = Unit {0}

@@ -3,40 +3,22 @@ ghost use Rattle.std.specs.Prelude.{◌≡◌, ◌<◌, ◌≤◌, ◌-◌, [], 
 ghost use Rattle.tclv_text.specs.Texts.{IsText};
 ghost use Rattle.tclv_value.specs.View.{HasPlace, IsMade, text_at};
 ghost use Rattle.tclv_interp.specs.Builtins as spec;
-ghost use Rattle.tclv_interp.specs.Answers.{Answers, KeepsStack, IsCalm, returned};
+ghost use Rattle.tclv_engine.specs.Answers.{Answers, KeepsStack, IsCalm, returned};
 
-use crate::cell_commands::CellCommand;
-use crate::data_commands::DataCommand;
-use crate::endings::{End, ErrorCode};
-use crate::machine::Machine;
-use crate::names::is_qualified;
-use tclv_model::MessageId;
+use tclv_control::ControlCommand;
+use tclv_engine::{End, Machine, is_qualified};
+use tclv_model::{ErrorCode, MessageId};
+use tclv_plain::{CellCommand, DataCommand, PlainCommand};
 use tclv_text::as_str;
 use tclv_value::At;
 
 /// A command that is built in.
 #[derive(Clone, Copy, Debug, PartialEq, Eq)]
 pub enum Builtin {
-    Append,
-    Break,
-    /// A data command that is handed a variable.
-    Cell(CellCommand),
-    Continue,
-    /// A data command.
-    Data(DataCommand),
-    Eval,
-    Exit,
-    Expr,
-    For,
-    Foreach,
-    If,
-    Incr,
-    Lassign,
-    Lmap,
-    Puts,
-    Set,
-    Switch,
-    While,
+    /// One that evaluates no script.
+    Plain(PlainCommand),
+    /// One that wants scripts or expressions evaluated.
+    Control(ControlCommand),
 }
 
 /// The command of a name.
@@ -45,79 +27,77 @@ pub fn builtin_of(name: &[u8]) -> Option<Builtin>
     ensures { result ≡ spec.builtin_of name.now }
 {
     match as_str(name) {
-        "append" => Some(Builtin::Append),
-        "break" => Some(Builtin::Break),
-        "concat" => Some(Builtin::Data(DataCommand::Concat)),
-        "continue" => Some(Builtin::Continue),
-        "eval" => Some(Builtin::Eval),
-        "exit" => Some(Builtin::Exit),
-        "expr" => Some(Builtin::Expr),
-        "for" => Some(Builtin::For),
-        "foreach" => Some(Builtin::Foreach),
-        "if" => Some(Builtin::If),
-        "incr" => Some(Builtin::Incr),
-        "join" => Some(Builtin::Data(DataCommand::Join)),
-        "lappend" => Some(Builtin::Cell(CellCommand::Lappend)),
-        "lassign" => Some(Builtin::Lassign),
-        "lindex" => Some(Builtin::Data(DataCommand::Lindex)),
-        "linsert" => Some(Builtin::Data(DataCommand::Linsert)),
-        "list" => Some(Builtin::Data(DataCommand::List)),
-        "llength" => Some(Builtin::Data(DataCommand::Llength)),
-        "lmap" => Some(Builtin::Lmap),
-        "lpop" => Some(Builtin::Cell(CellCommand::Lpop)),
-        "lrange" => Some(Builtin::Data(DataCommand::Lrange)),
-        "lremove" => Some(Builtin::Data(DataCommand::Lremove)),
-        "lrepeat" => Some(Builtin::Data(DataCommand::Lrepeat)),
-        "lreplace" => Some(Builtin::Data(DataCommand::Lreplace)),
-        "lreverse" => Some(Builtin::Data(DataCommand::Lreverse)),
-        "lsearch" => Some(Builtin::Data(DataCommand::Lsearch)),
-        "lseq" => Some(Builtin::Data(DataCommand::Lseq)),
-        "lset" => Some(Builtin::Cell(CellCommand::Lset)),
-        "lsort" => Some(Builtin::Data(DataCommand::Lsort)),
-        "puts" => Some(Builtin::Puts),
-        "set" => Some(Builtin::Set),
-        "split" => Some(Builtin::Data(DataCommand::Split)),
-        "switch" => Some(Builtin::Switch),
-        "while" => Some(Builtin::While),
+        "append" => Some(Builtin::Plain(PlainCommand::Append)),
+        "break" => Some(Builtin::Plain(PlainCommand::Break)),
+        "concat" => Some(Builtin::Plain(PlainCommand::Data(DataCommand::Concat))),
+        "continue" => Some(Builtin::Plain(PlainCommand::Continue)),
+        "eval" => Some(Builtin::Control(ControlCommand::Eval)),
+        "exit" => Some(Builtin::Plain(PlainCommand::Exit)),
+        "expr" => Some(Builtin::Control(ControlCommand::Expr)),
+        "for" => Some(Builtin::Control(ControlCommand::For)),
+        "foreach" => Some(Builtin::Control(ControlCommand::Foreach)),
+        "if" => Some(Builtin::Control(ControlCommand::If)),
+        "incr" => Some(Builtin::Plain(PlainCommand::Incr)),
+        "join" => Some(Builtin::Plain(PlainCommand::Data(DataCommand::Join))),
+        "lappend" => Some(Builtin::Plain(PlainCommand::Cell(CellCommand::Lappend))),
+        "lassign" => Some(Builtin::Plain(PlainCommand::Lassign)),
+        "lindex" => Some(Builtin::Plain(PlainCommand::Data(DataCommand::Lindex))),
+        "linsert" => Some(Builtin::Plain(PlainCommand::Data(DataCommand::Linsert))),
+        "list" => Some(Builtin::Plain(PlainCommand::Data(DataCommand::List))),
+        "llength" => Some(Builtin::Plain(PlainCommand::Data(DataCommand::Llength))),
+        "lmap" => Some(Builtin::Control(ControlCommand::Lmap)),
+        "lpop" => Some(Builtin::Plain(PlainCommand::Cell(CellCommand::Lpop))),
+        "lrange" => Some(Builtin::Plain(PlainCommand::Data(DataCommand::Lrange))),
+        "lremove" => Some(Builtin::Plain(PlainCommand::Data(DataCommand::Lremove))),
+        "lrepeat" => Some(Builtin::Plain(PlainCommand::Data(DataCommand::Lrepeat))),
+        "lreplace" => Some(Builtin::Plain(PlainCommand::Data(DataCommand::Lreplace))),
+        "lreverse" => Some(Builtin::Plain(PlainCommand::Data(DataCommand::Lreverse))),
+        "lsearch" => Some(Builtin::Plain(PlainCommand::Data(DataCommand::Lsearch))),
+        "lseq" => Some(Builtin::Plain(PlainCommand::Data(DataCommand::Lseq))),
+        "lset" => Some(Builtin::Plain(PlainCommand::Cell(CellCommand::Lset))),
+        "lsort" => Some(Builtin::Plain(PlainCommand::Data(DataCommand::Lsort))),
+        "puts" => Some(Builtin::Plain(PlainCommand::Puts)),
+        "set" => Some(Builtin::Plain(PlainCommand::Set)),
+        "split" => Some(Builtin::Plain(PlainCommand::Data(DataCommand::Split))),
+        "switch" => Some(Builtin::Control(ControlCommand::Switch)),
+        "while" => Some(Builtin::Control(ControlCommand::While)),
         _ => None,
     }
 }
 
-impl Machine {
-    /// The command that the lowest of the top n texts names.
-    pub fn resolve(&mut self, n: usize) -> Result<Builtin, End>
-        requires words { n ≤ length self.old.values.store.stack }
-        requires some { 0 < n }
-        ensures answer { Answers (spec.resolve (slice_index_or self.old.values.store.stack (length self.old.values.store.stack - n) [])) returned self.old result self.new }
-        ensures stack { KeepsStack self.old.values.store.stack result self.new.values.store.stack }
-        ensures calm { IsCalm result }
-        ensures units { self.new.units ≤ self.old.units }
-    {
-        let name = At::Stack(self.values.height() - n);
-        self.values.make_text(name)?;
-        self.resolve_made(name)
-    }
+/// The command that the lowest of the top n texts names.
+pub fn resolve<W>(machine: &mut Machine<W>, n: usize) -> Result<Builtin, End>
+    requires words { n ≤ length machine.old.values.store.stack }
+    requires some { 0 < n }
+    ensures answer { Answers (spec.resolve (slice_index_or machine.old.values.store.stack (length machine.old.values.store.stack - n) [])) returned machine.old result machine.new }
+    ensures stack { KeepsStack machine.old.values.store.stack result machine.new.values.store.stack }
+    ensures calm { IsCalm result }
+    ensures units { machine.new.units ≡ machine.old.units }
+{
+    let name = At::Stack(machine.values.height() - n);
+    machine.values.make_text(name)?;
+    resolve_made(machine, name)
+}
 
-    // The command that the text of a place names, which is made.
-    fn resolve_made(&mut self, name: At) -> Result<Builtin, End>
-        requires place { HasPlace self.old.values.store name }
-        requires made { IsMade self.old.values.store name }
-        ensures answer { Answers (spec.resolve (text_at self.old.values.store name)) returned self.old result self.new }
-        ensures stack { KeepsStack self.old.values.store.stack result self.new.values.store.stack }
-        ensures calm { IsCalm result }
-        ensures units { self.new.units ≤ self.old.units }
-    {
-        if is_qualified(self.values.lend(name)) {
-            return Err(self.not_built());
-        }
-        match builtin_of(self.values.lend(name)) {
-            Some(builtin) => Ok(builtin),
-            None => Err(self.raise_at(
-                MessageId::UnknownCommand,
-                name,
-                b"",
-                ErrorCode::UnknownCommand,
-            )),
-        }
+// The command that the text of a place names, which is made.
+fn resolve_made<W>(machine: &mut Machine<W>, name: At) -> Result<Builtin, End>
+    requires place { HasPlace machine.old.values.store name }
+    requires made { IsMade machine.old.values.store name }
+    ensures answer { Answers (spec.resolve (text_at machine.old.values.store name)) returned machine.old result machine.new }
+    ensures stack { KeepsStack machine.old.values.store.stack result machine.new.values.store.stack }
+    ensures calm { IsCalm result }
+    ensures units { machine.new.units ≡ machine.old.units }
+{
+    if is_qualified(machine.values.lend(name)) {
+        return Err(machine.not_built());
+    }
+    match builtin_of(machine.values.lend(name)) {
+        Some(builtin) => Ok(builtin),
+        None => Err(machine.raise_at(
+            MessageId::UnknownCommand,
+            name,
+            b"",
+            ErrorCode::UnknownCommand,
+        )),
     }
 }

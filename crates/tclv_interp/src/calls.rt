@@ -1,23 +1,23 @@
 // The calls of an interpreter.
 ghost use Rattle.std.specs.Prelude.{◌≡◌, ◌≢◌, ◌↔◌, ◌<◌, [], ℕ, false, true, length, slice_index_or, IfOk, IfErr, OnOk, OnErr, Ok, Err};
 ghost use Rattle.std.specs.Str.{chars};
+ghost use Rattle.tclv_text.specs.Numbers.{whole_text};
 ghost use Rattle.tclv_text.specs.Texts.{IsText};
 ghost use Rattle.tclv_io.specs.World.{World};
 ghost use Rattle.tclv_value.specs.View.{HasPlace};
-ghost use Rattle.tclv_interp.specs.Answers as answers;
-ghost use Rattle.tclv_interp.specs.Answers.{outer, AtWorld, SameState, last_of};
-ghost use Rattle.tclv_interp.specs.Results.{option, code_options, plain_options, error_options};
-ghost use Rattle.tclv_interp.specs.Variables.{assign, is_unbuilt};
-ghost use Rattle.tclv_interp.specs.Interpreters.{state_over, blank, writes_of, evaluation, script_at, result_of, options_at, is_stopped, Evaluates, HasResult, Shows, StopCause, StopsAt};
+ghost use Rattle.tclv_engine.specs.Answers as answers;
+ghost use Rattle.tclv_engine.specs.Answers.{outer, AtWorld, HasResult, SameState, last_of};
+ghost use Rattle.tclv_engine.specs.Results.{option, code_number, code_options, carried, error_options};
+ghost use Rattle.tclv_engine.specs.Variables.{assign, is_unbuilt};
+ghost use Rattle.tclv_interp.specs.Interpreters.{state_over, blank, HasNoArrays, variables_of, writes_of, evaluation, script_at, result_of, options_at, is_stopped, Evaluates, Shows, StopCause, StopsAt};
 
-use crate::endings::{End, Leaving};
+use crate::commands::{Commands, Tables};
 use crate::interpreters::{Interp, Stop};
-use crate::machine::Machine;
-use crate::values::Values;
 use std::alloc::Global;
+use tclv_engine::{Carried, End, Leaving, Machine, Values};
 use tclv_io::Outside;
 use tclv_model::{Code, Options, Pair};
-use tclv_text::{NoMemory, Stats, Text};
+use tclv_text::{NoMemory, Stats, Text, whole_text};
 use tclv_value::At;
 
 // Where the result stands.
@@ -36,21 +36,48 @@ fn option_of(alloc: Global, key: &str, value: &[u8]) -> Result<Pair, NoMemory>
     })
 }
 
-// The options of a code with this number, which has none of its own.
-fn code_options(alloc: Global, number: &str) -> Result<Options, NoMemory>
-    ensures { IfOk result (λ options. options ≡ code_options (chars number.now)) }
+// The number of a code.
+fn number_of(code: Code) -> i64
+    ensures { whole_text result ≡ code_number code }
 {
+    match code {
+        Code::Ok => 0,
+        Code::Error => 1,
+        Code::Return => 2,
+        Code::Break => 3,
+        Code::Continue => 4,
+        Code::Other(n) => i64::from(n),
+    }
+}
+
+// The number of a code, as a text.
+fn number_text(alloc: Global, code: Code) -> Result<Text, NoMemory>
+    ensures { IfOk result (λ text. text ≡ code_number code) }
+{
+    let mut text = Vec::new(alloc);
+    whole_text(number_of(code), &mut text)?;
+    Ok(Text::new(text))
+}
+
+// The options of a code, which has none of its own.
+fn code_options(alloc: Global, code: Code) -> Result<Options, NoMemory>
+    ensures { IfOk result (λ options. options ≡ code_options (code_number code)) }
+{
+    let number = number_text(alloc, code)?;
     let mut options = Options::new(alloc);
-    options.push(option_of(alloc, "-code", number.as_bytes())?)?;
+    options.push(option_of(alloc, "-code", number.bytes())?)?;
     options.push(option_of(alloc, "-level", b"0")?)?;
     Ok(options)
 }
 
-// The options of an ok that keeps none of its own.
-fn plain_options(alloc: Global) -> Result<Options, NoMemory>
-    ensures { IfOk result (λ options. options ≡ plain_options) }
+// The options that a code carries.
+fn carried_options(alloc: Global, code: Code, kept: Carried) -> Result<Options, NoMemory>
+    ensures { IfOk result (λ options. options ≡ carried code kept) }
 {
-    code_options(alloc, "0")
+    match kept {
+        Carried::Plain => code_options(alloc, code),
+        Carried::Kept(options) => Ok(options),
+    }
 }
 
 // The options of an error.
@@ -70,54 +97,51 @@ fn code_of(leaving: &Leaving) -> Code
 {
     match leaving {
         Leaving::Error(_) => Code::Error,
-        Leaving::Break => Code::Break,
-        Leaving::Continue => Code::Continue,
+        Leaving::Other(code, _) => *code,
     }
 }
 
 // Its options.
-fn options_of(alloc: Global, leaving: &Leaving) -> Result<Options, NoMemory>
-    ensures { IfOk result (λ options. options ≡ answers.options_of leaving.now) }
+fn options_of(alloc: Global, leaving: Leaving) -> Result<Options, NoMemory>
+    ensures { IfOk result (λ options. options ≡ answers.options_of leaving) }
 {
     match leaving {
-        Leaving::Error(errorcode) => error_options(alloc, errorcode),
-        Leaving::Break => code_options(alloc, "3"),
-        Leaving::Continue => code_options(alloc, "4"),
+        Leaving::Error(errorcode) => error_options(alloc, &errorcode),
+        Leaving::Other(code, kept) => carried_options(alloc, code, kept),
     }
 }
 
-impl Machine {
-    // Lets the text of the result's place go.
-    fn forget_result(&mut self) -> Result<(), NoMemory>
-        requires { 0 < length self.old.values.store.stack }
-        ensures stack { length self.new.values.store.stack ≡ length self.old.values.store.stack }
-        ensures same { SameState self.old self.new }
-    {
-        let height = self.values.height();
-        self.values.push_text(b"")?;
-        self.values.copy_over(At::Stack(height), 0);
-        self.values.pop(1);
-        Ok(())
-    }
+// Lets the text of the result's place go.
+fn forget_result(machine: &mut Machine<Tables>) -> Result<(), NoMemory>
+    requires { 0 < length machine.old.values.store.stack }
+    ensures stack { length machine.new.values.store.stack ≡ length machine.old.values.store.stack }
+    ensures same { SameState machine.old machine.new }
+{
+    let height = machine.values.height();
+    machine.values.push_text(b"")?;
+    machine.values.copy_over(At::Stack(height), 0);
+    machine.values.pop(1);
+    Ok(())
+}
 
-    // Moves the top text to the result's place, and cuts the stack to a height. Takes no memory.
-    fn keep_result(&mut self, height: usize)
-        requires some { 0 < height }
-        requires above { height < length self.old.values.store.stack }
-        ensures result { slice_index_or self.new.values.store.stack 0 [] ≡ last_of self.old.values.store.stack }
-        ensures some { 0 < length self.new.values.store.stack }
-        ensures same { SameState self.old self.new }
-    {
-        let last = self.values.height() - 1;
-        self.values.copy_over(At::Stack(last), 0);
-        self.values.pop(last + 1 - height);
-    }
+// Moves the top text to the result's place, and cuts the stack to a height. Takes no memory.
+fn keep_result(machine: &mut Machine<Tables>, height: usize)
+    requires some { 0 < height }
+    requires above { height < length machine.old.values.store.stack }
+    ensures result { slice_index_or machine.new.values.store.stack 0 [] ≡ last_of machine.old.values.store.stack }
+    ensures some { 0 < length machine.new.values.store.stack }
+    ensures same { SameState machine.old machine.new }
+{
+    let last = machine.values.height() - 1;
+    machine.values.copy_over(At::Stack(last), 0);
+    machine.values.pop(last + 1 - height);
 }
 
 impl Interp {
     /// An interpreter without variables, whose scripts may take so many units.
     pub fn new(alloc: Global, budget: u64) -> Result<Interp, NoMemory>
         ensures state { IfOk result (λ i. (w : World) → state_over i w ≡ blank budget w) }
+        ensures arrays { IfOk result (λ i. HasNoArrays (variables_of i)) }
         ensures writes { IfOk result (λ i. writes_of i ≡ 0) }
         ensures stopped { IfOk result (λ i. is_stopped i ≡ false) }
         ensures result { IfOk result (λ i. result_of i ≡ []) }
@@ -129,6 +153,7 @@ impl Interp {
             machine: Machine {
                 alloc,
                 values,
+                own: Tables {},
                 units: budget,
                 depth: 0,
                 writes: 0,
@@ -139,12 +164,14 @@ impl Interp {
     }
 
     /// Sets the global variable of a name to a value, both as UTF-8. The name holds neither a colon
-    /// nor a parenthesis, and no script was evaluated before, so no variable is an array. After
-    /// `NoMemory` all is as before.
+    /// nor a parenthesis, and no variable is an array, as before the first script. After `NoMemory`
+    /// all is as before.
     pub fn set_global(&mut self, name: &[u8], value: &[u8]) -> Result<(), NoMemory>
         requires name { IsText name.now }
         requires value { IsText value.now }
         requires plain { is_unbuilt name.now ≡ false }
+        requires arrays { HasNoArrays (variables_of self.old) }
+        ensures arrays { HasNoArrays (variables_of self.new) }
         ensures state { OnOk result ((w : World) → state_over self.new w ≡ (assign (chars name.now) (chars value.now) (state_over self.old w)).after) }
         ensures refused { OnErr result ((w : World) → state_over self.new w ≡ state_over self.old w) }
         ensures writes { writes_of self.new ≡ writes_of self.old }
@@ -208,14 +235,14 @@ impl Interp {
         ensures other { IfErr result (λ s. s ≢ Stop.Stopped) }
     {
         let tree = self.machine.values.script(at)?;
-        self.machine.forget_result()?;
+        forget_result(&mut self.machine)?;
         let height = self.machine.values.height();
-        let ended = self.machine.script(out, &tree);
+        let ended = self.machine.script(&Commands {}, out, &tree);
         self.end(height, ended)
     }
 
     // Keeps what a script ended with, whose result stands above a height.
-    fn end(&mut self, height: usize, ended: Result<(), End>) -> Result<Code, Stop>
+    fn end(&mut self, height: usize, ended: Result<Carried, End>) -> Result<Code, Stop>
         requires some { 0 < height }
         requires result { HasResult height ended self.old.machine.values.store.stack }
         requires stopped { is_stopped self.old ≡ true }
@@ -227,10 +254,14 @@ impl Interp {
         ensures other { IfErr result (λ s. s ≢ Stop.Stopped) }
     {
         match ended {
-            Ok(()) => self.keep(height, Code::Ok, plain_options(self.machine.alloc)),
+            Ok(kept) => {
+                let options = carried_options(self.machine.alloc, Code::Ok, kept);
+                self.keep(height, Code::Ok, options)
+            }
             Err(End::Left(leaving)) => {
-                let options = options_of(self.machine.alloc, &leaving);
-                self.keep(height, code_of(&leaving), options)
+                let code = code_of(&leaving);
+                let options = options_of(self.machine.alloc, leaving);
+                self.keep(height, code, options)
             }
             Err(End::Budget) => Err(Stop::Budget),
             Err(End::Exit(status)) => Err(Stop::Exit(status)),
@@ -260,7 +291,7 @@ impl Interp {
         ensures options { OnErr result (options_at self.new ≡ []) }
     {
         let options = options?;
-        self.machine.keep_result(height);
+        keep_result(&mut self.machine, height);
         self.stopped = false;
         self.options = options;
         Ok(code)

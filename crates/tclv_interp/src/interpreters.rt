@@ -1,7 +1,8 @@
 // The interpreter, and why it stops.
 ghost use Rattle.std.specs.Prelude.{◌≡◌, ◌<◌, [], false, true, length};
 
-use crate::machine::Machine;
+use crate::commands::Tables;
+use tclv_engine::Machine;
 use tclv_model::Options;
 use tclv_text::NoMemory;
 
@@ -23,7 +24,7 @@ pub enum Stop {
 /// An interpreter of scripts: its variables, and the result of the last evaluation.
 #[derive(Drop)]
 pub struct Interp {
-    pub machine: Machine,
+    pub machine: Machine<Tables>,
     pub options: Options,
     pub stopped: bool,
     ghost has_result: { stopped ≡ false → 0 < length machine.values.store.stack },

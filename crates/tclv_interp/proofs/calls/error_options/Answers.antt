@@ -1,7 +1,7 @@
 use Rattle.std.proofs.Common.{[], ◌∷◌, ◌++◌, ap, ◌∙◌}
 use Rattle.std.specs.Str.{chars}
 use Rattle.tclv_interp.proofs.calls.error_options.Goals as goal
-use Rattle.tclv_interp.specs.Results.{option}
+use Rattle.tclv_engine.specs.Results.{option}
 use Rattle.std.specs.Prelude.{codes}
 
 pub returns : goal.returns

@@ -1,12 +1,13 @@
-use Rattle.std.proofs.Common.{rules, ap, ◌∙◌, refl, arith}
+use Rattle.std.proofs.Common.{rules, ap, ◌∙◌, refl}
 use Rattle.tclv_interp.proofs.interpreters.Interp.run.Goals as goal
-use Rattle.tclv_interp.specs.Evaluation.{evaluator}
-use Rattle.tclv_interp.specs.State.{state_of}
+use Rattle.tclv_engine.specs.Evaluation.{whole}
+use Rattle.tclv_interp.specs.Commands.{shell}
+use Rattle.tclv_engine.specs.State.{state_of}
 use Rattle.tclv_parse.specs.Grammar.{commands}
 use Rattle.tclv_interp.specs.Interpreters.{script_at}
-use Rattle.tclv_interp.proofs.Binds.{runs_as}
-use Rattle.tclv_interp.proofs.WordLemmas.{values_then}
-use Rattle.tclv_interp.proofs.Leaves.{from_same}
+use Rattle.tclv_engine.proofs.Binds.{runs_as}
+use Rattle.tclv_engine.proofs.WordLemmas.{values_then}
+use Rattle.tclv_engine.proofs.Leaves.{from_same}
 use Rattle.tclv_interp.proofs.InterpreterLemmas.{evaluates, evaluates-nothing}
 
 pub returns-in_err-tree-clause-answer : goal.returns-in_err-tree-clause-answer
@@ -17,10 +18,9 @@ returns-in_err-forget_result-clause-answer g t w told = evaluates-nothing (searc
 
 pub returns-clause-answer : goal.returns-clause-answer
 returns-clause-answer g t w told =
-    let same = values_then t.args.self.now.machine t.forget_result.new.self t.script.new.self t.in_ok-tree.ensures.same t.in_ok-forget_result.ensures.same in
+    let same = values_then t.args.self.now.machine t.forget_result.new.machine t.script.new.self t.in_ok-tree.ensures.same t.in_ok-forget_result.ensures.same in
     let script = commands (script_at t.args.self.now t.args.at) in
-    let units = t.args.self.now.machine.units in
     evaluates t.script-ended.new.self t.end.new.self.machine t.end.ensures.same t.end.ensures.shows
-    (from_same t.args.self.now.machine t.forget_result.new.self (λ st. (evaluator units).script script st) same
-    (runs_as (ap (λ s. (evaluator units).script s (state_of t.forget_result.new.self w)) (t.deref.ensures ∙ t.in_ok-tree.ensures.tree))
-    (t.script-ended.ensures.answer units (omega (arith, same.units)) w told)))
+    (from_same t.args.self.now.machine t.forget_result.new.machine (λ st. (whole shell).script script st) same
+    (runs_as (ap (λ s. (whole shell).script s (state_of t.forget_result.new.machine w)) (t.deref.ensures ∙ t.in_ok-tree.ensures.tree))
+    (t.script-ended.ensures.answer w told)))

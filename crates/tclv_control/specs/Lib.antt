@@ -1,0 +1,6 @@
+pub mod WhileRows
+pub mod EachRows
+pub mod ScriptRows
+pub mod SwitchRows
+pub mod IfRows
+pub mod ControlRows

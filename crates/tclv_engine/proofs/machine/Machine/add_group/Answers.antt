@@ -1,0 +1,15 @@
+use Rattle.std.proofs.Common.{rules, refl, ap, ◌∙◌, ◌++◌, ◌∷◌, []}
+use Rattle.tclv_engine.proofs.Binds.{answers_as, runs_as, bind_ok, bind-done}
+use Rattle.tclv_engine.proofs.Leaves.{memory_runs, done_runs}
+use Rattle.tclv_engine.proofs.ListLemmas.{other_show}
+use Rattle.tclv_engine.proofs.machine.Machine.add_group.Goals as goal
+
+pub returns-in_err-group-clause-answer : goal.returns-in_err-group-clause-answer
+returns-in_err-group-clause-answer g c here w told = answers_as (search rules) (other_show _ (c.in_err-group.ensures.answer here w told))
+
+pub returns-then-is_err-clause-answer : goal.returns-then-is_err-clause-answer
+returns-then-is_err-clause-answer g c here w told = memory_runs refl told c.in_ok-group.ensures.same.events
+
+pub returns-clause-answer : goal.returns-clause-answer
+returns-clause-answer g c here w told =
+    runs_as (bind-done _) (bind_ok _ (c.in_ok-group.ensures.answer here w told) (λ g v e shown. done_runs e refl (search rules ∙ ap (λ x. c.args.groups.now ++ x ∷ []) shown)))

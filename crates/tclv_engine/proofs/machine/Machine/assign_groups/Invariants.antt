@@ -1,0 +1,5 @@
+use Rattle.tclv_engine.proofs.ForeachLemmas.{GroupsAssigned}
+use Rattle.tclv_engine.proofs.machine.Machine.assign_groups.Given as goal
+
+abbrev pub invariant-loop-i : goal.invariant-loop-i
+invariant-loop-i g l = GroupsAssigned l.turn l.groups l.fn.self l.self l.i

@@ -1,0 +1,71 @@
+-- Reading and writing variables.
+use Rattle.std.specs.Prelude.{◌≡◌, ℕ, ◌||◌, Bool, if◌then◌else◌, List, [], None, unwrap_or, Result, Ok, Err}
+use Rattle.std.specs.FinMap.{get, insert}
+use Rattle.tclv_vars.specs.declared.places.Place.TheVariants as place
+use Rattle.tclv_vars.specs.declared.faults.VarFault.{VarFault}
+use Rattle.tclv_vars.specs.declared.faults.VarFault.TheVariants as fault
+use Rattle.tclv_vars.specs.Table.{Spot, read, write}
+use Rattle.tclv_model.specs.declared.messages.MessageId.{MessageId}
+use Rattle.tclv_model.specs.declared.messages.MessageId.TheVariants as message
+use Rattle.tclv_model.specs.declared.error_codes.ErrorCode.{ErrorCode}
+use Rattle.tclv_model.specs.declared.error_codes.ErrorCode.TheVariants.{NoCode, UnknownVariable}
+use Rattle.tclv_engine.specs.State.{Text, State}
+use Rattle.tclv_model.specs.Message.{text_of}
+use Rattle.tclv_engine.specs.declared.endings.End.{End}
+use Rattle.tclv_engine.specs.declared.endings.End.TheVariants as end
+use Rattle.tclv_engine.specs.Results.{Res, done, raise}
+use Rattle.tclv_model.specs.ErrorCodes.{error_code}
+use Rattle.tclv_engine.specs.Answers.{Raises}
+use Rattle.tclv_engine.specs.Names.{bytes_of, is_element, is_qualified}
+
+-- Elements of arrays and qualified names aren't built yet.
+abbrev pub is_unbuilt : List ℕ → Bool
+is_unbuilt name = is_element name || is_qualified name
+
+abbrev pub not_built : {W A : Type 0} → (State W) → Res W A
+not_built st = raise message.NotBuilt [] [] NoCode st
+
+-- ---- reading
+
+-- why a variable can't be read
+abbrev pub reading_message : VarFault → MessageId
+reading_message fault.NoElement = message.NoSuchElement
+reading_message fault.IsArray = message.CannotReadArray
+reading_message fault.NotArray = message.CannotReadNonArray
+reading_message _ = message.NoSuchVariable
+
+abbrev pub reading_code : VarFault → ErrorCode
+reading_code fault.NoElement = NoCode
+reading_code fault.IsArray = NoCode
+reading_code fault.NotArray = NoCode
+reading_code _ = UnknownVariable
+
+-- the text of the cell that was found
+abbrev pub read_cell : {W : Type 0} → Text → Result ℕ VarFault → (State W) → Res W Text
+read_cell name (Ok cell) st = done (unwrap_or (get st.texts cell) []) st
+read_cell name (Err f) st = raise (reading_message f) name [] (reading_code f) st
+
+-- the value of the variable of this name
+abbrev pub variable : {W : Type 0} → Text → (State W) → Res W Text
+variable name st = if is_unbuilt (bytes_of name) then not_built st else read_cell name (read st.vars place.Frame (bytes_of name) None) st
+
+-- ---- writing
+
+-- why a variable can't be set
+abbrev pub setting_message : VarFault → MessageId
+setting_message fault.NotArray = message.CannotSetNonArray
+setting_message _ = message.CannotSetArray
+
+-- what a call answers that refuses to set a variable
+abbrev pub RefusesSetting : VarFault → Text → List Text → End → Type 0
+RefusesSetting fault.NoMemory name stack e = e ≡ end.Memory
+RefusesSetting f name stack e = Raises (text_of (setting_message f) name []) (error_code NoCode name) stack e
+
+-- the cell that was found has this text
+abbrev pub write_cell : {W : Type 0} → Text → Text → Result Spot VarFault → (State W) → Res W Text
+write_cell name value (Ok spot) st = done value (record st { vars = spot.after; texts = insert st.texts spot.cell value })
+write_cell name value (Err f) st = raise (setting_message f) name [] NoCode st
+
+-- The variable of this name is set to a text, which is the value.
+abbrev pub assign : {W : Type 0} → Text → Text → (State W) → Res W Text
+assign name value st = if is_unbuilt (bytes_of name) then not_built st else write_cell name value (write st.vars place.Frame (bytes_of name) None) st

@@ -1,0 +1,318 @@
+// The values of a run: a stack of texts, and variables.
+ghost use Rattle.std.specs.Prelude.{◌≡◌, ◌+◌, ◌-◌, ◌<◌, ◌≤◌, ◌++◌, [], ◌∷◌, length, take, Ok, Err, IfOk, IfErr, IfSome, OnOk, OnErr, slice_set, None, Some, slice_index_or};
+ghost use Rattle.std.specs.Str.{chars};
+ghost use Rattle.std.specs.FinMap as finite;
+ghost use Rattle.std.specs.List.{All};
+ghost use Rattle.std.specs.Option.{option_map};
+ghost use Rattle.tclv_text.specs.Texts.{IsText};
+ghost use Rattle.tclv_text.specs.Numbers.{whole, whole_text};
+ghost use Rattle.tclv_parse.specs.Grammar.{commands};
+ghost use Rattle.tclv_exprp.specs.ExpressionGrammar as grammar;
+ghost use Rattle.tclv_exprp.specs.ExpressionGrammar.{expression};
+ghost use Rattle.tclv_vars.specs.Table.{no_variables, read, write, Refuses};
+ghost use Rattle.tclv_value.specs.View.{HasPlace, text_at, IsMade};
+ghost use Rattle.tclv_value.specs.Stacks.{top, under};
+
+use std::alloc::Global;
+use std::marker::Model;
+use std::rc::Rc;
+use tclv_exprp::{ExprFault, ExprTree};
+use tclv_model::CmdFault;
+use tclv_parse::Script;
+use tclv_reply::{Elements, list_elements};
+use tclv_text::{NoMemory, Stats, Text};
+use tclv_value::{At, Store, ValueFault};
+use tclv_vars::{Place, VarFault, Vars};
+
+/// The values of a run: a stack of texts, and the variables with their texts.
+///
+/// A place that is handed in is there: a place of the stack below its height, or a cell that has a
+/// text. Texts are lent and taken as UTF-8.
+#[derive(Drop)]
+pub struct Values {
+    pub store: Store,
+    pub vars: Vars,
+}
+
+impl Model for Values {
+    ghost use Rattle.tclv_engine.specs.Holdings.{Holdings, IsTied, holdings_code};
+
+    ghost Value = { Holdings };
+
+    ghost coded = { holdings_code };
+
+    ghost view = { λ v. record { store = v.store; vars = v.vars } };
+
+    ghost invariant = { λ v. IsTied v.vars v.store.cells };
+}
+
+// Lends the text of a place, which is made.
+fn lent(store: &Store, at: At) -> &[u8]
+    requires place { HasPlace store.now at }
+    requires made { IsMade store.now at }
+    ensures utf8 { IsText result.now }
+    ensures text { chars result.now ≡ text_at store.now at }
+{
+    match store.text(at) {
+        Some(text) => text,
+        None => unreachable!(),
+    }
+}
+
+impl Values {
+    ghost use Rattle.tclv_value.specs.declared.places.At.TheVariants.{Stack, Cell};
+    ghost use Rattle.tclv_text.specs.Quotes.{list_text};
+    ghost use Rattle.tclv_model.specs.Values.{list_of};
+    ghost use Rattle.tclv_value.specs.Stacks.{top, under};
+    ghost use Rattle.tclv_value.specs.View.{StaysMade};
+    ghost use Rattle.tclv_reply.specs.Replies as replies;
+    ghost use Rattle.tclv_value.specs.Answers.{RefusesWhole};
+    ghost use Rattle.tclv_engine.specs.Holdings.{Sets, SameVariables, Assigned};
+    ghost use Rattle.tclv_engine.specs.Names.{bytes_of};
+
+    /// An empty stack and no variables.
+    pub fn new(alloc: Global) -> Result<Values, NoMemory>
+        ensures stack { IfOk result (λ v. v.store.stack ≡ []) }
+        ensures cells { IfOk result (λ v. v.store.cells ≡ finite.empty) }
+        ensures vars { IfOk result (λ v. v.vars ≡ no_variables) }
+    {
+        let vars = Vars::new(alloc)?;
+        Ok(Values {
+            store: Store::new(alloc),
+            vars,
+        })
+    }
+
+    /// Pushes a copy of a text.
+    pub fn push_text(&mut self, text: &[u8]) -> Result<(), NoMemory>
+        requires { IsText text.now }
+        ensures pushed { OnOk result (self.new.store.stack ≡ self.old.store.stack ++ chars text.now ∷ []) }
+        ensures refused { OnErr result (self.new.store.stack ≡ self.old.store.stack) }
+        ensures same { SameVariables self.old self.new }
+    {
+        self.store.push_text(text)
+    }
+
+    /// Pushes the decimal text of a number.
+    pub fn push_whole(&mut self, n: i64) -> Result<(), NoMemory>
+        ensures pushed { OnOk result (self.new.store.stack ≡ self.old.store.stack ++ whole_text n ∷ []) }
+        ensures refused { OnErr result (self.new.store.stack ≡ self.old.store.stack) }
+        ensures same { SameVariables self.old self.new }
+    {
+        self.store.push_whole(n)
+    }
+
+    /// Pushes the text of a place, which is shared and not copied.
+    pub fn push_copy(&mut self, from: At) -> Result<(), NoMemory>
+        requires { HasPlace self.old.store from }
+        ensures pushed { OnOk result (self.new.store.stack ≡ self.old.store.stack ++ text_at self.old.store from ∷ []) }
+        ensures refused { OnErr result (self.new.store.stack ≡ self.old.store.stack) }
+        ensures same { SameVariables self.old self.new }
+    {
+        self.store.push_copy(from)
+    }
+
+    /// Gives a place of the stack the text of another place, which is shared and not copied. Takes
+    /// no memory.
+    pub fn copy_over(&mut self, from: At, to: usize)
+        requires from { HasPlace self.old.store from }
+        requires to { to < length self.old.store.stack }
+        ensures stack { self.new.store.stack ≡ slice_set self.old.store.stack to (text_at self.old.store from) }
+        ensures same { SameVariables self.old self.new }
+    {
+        self.store.copy_over(from, to);
+    }
+
+    /// How many texts the stack has. Takes no memory.
+    pub fn height(&self) -> usize
+        ensures { result ≡ length self.now.store.stack }
+    {
+        self.store.height()
+    }
+
+    /// Takes texts off the stack, so many as are asked for, which are there. Takes no memory.
+    pub fn pop(&mut self, n: usize)
+        requires { n ≤ length self.old.store.stack }
+        ensures popped { self.new.store.stack ≡ take (length self.old.store.stack - n) self.old.store.stack }
+        ensures same { SameVariables self.old self.new }
+    {
+        self.store.pop(n);
+    }
+
+    /// Makes the text of a place, so that `lend` lends it. No text changes.
+    pub fn make_text(&mut self, at: At) -> Result<(), NoMemory>
+        requires { HasPlace self.old.store at }
+        ensures made { OnOk result (IsMade self.new.store at) }
+        ensures stack { self.new.store.stack ≡ self.old.store.stack }
+        ensures stays { StaysMade self.old.store self.new.store }
+        ensures same { SameVariables self.old self.new }
+    {
+        self.store.make_text(at)
+    }
+
+    /// Lends the text of a place, which is made. Takes no memory.
+    pub fn lend(&self, at: At) -> &[u8]
+        requires place { HasPlace self.now.store at }
+        requires made { IsMade self.now.store at }
+        ensures utf8 { IsText result.now }
+        ensures text { chars result.now ≡ text_at self.now.store at }
+    {
+        lent(&self.store, at)
+    }
+
+    /// The whole number of 64 bits that the text of a place is. No text changes. Refuses as
+    /// `tclv_value::Store::whole` does.
+    pub fn whole(&mut self, at: At) -> Result<i64, ValueFault>
+        requires { HasPlace self.old.store at }
+        ensures number { IfOk result (λ n. whole (text_at self.old.store at) ≡ Ok n) }
+        ensures refused { IfErr result (λ fault. RefusesWhole fault (whole (text_at self.old.store at))) }
+        ensures stack { self.new.store.stack ≡ self.old.store.stack }
+        ensures same { SameVariables self.old self.new }
+    {
+        self.store.whole(at)
+    }
+
+    /// The tree of the script that the text of a place is. No text changes.
+    pub fn script(&mut self, at: At) -> Result<Rc<Script>, NoMemory>
+        requires { HasPlace self.old.store at }
+        ensures tree { IfOk result (λ tree. tree.value ≡ commands (text_at self.old.store at)) }
+        ensures stack { self.new.store.stack ≡ self.old.store.stack }
+        ensures same { SameVariables self.old self.new }
+    {
+        self.store.script(at)
+    }
+
+    /// The tree of the expression that the text of a place is. No text changes. Refuses as
+    /// `tclv_value::Store::expr` does.
+    pub fn expr(&mut self, at: At) -> Result<Rc<ExprTree>, ExprFault>
+        requires { HasPlace self.old.store at }
+        ensures tree { IfOk result (λ tree. expression (text_at self.old.store at) ≡ Ok tree.value) }
+        ensures refused { IfErr result (λ fault. grammar.Answers (expression (text_at self.old.store at)) (Err fault)) }
+        ensures stack { self.new.store.stack ≡ self.old.store.stack }
+        ensures same { SameVariables self.old self.new }
+    {
+        self.store.expr(at)
+    }
+
+    /// The cell of the variable of this name, which has a text. Refuses as `tclv_vars::Vars::read`
+    /// does. Takes no memory.
+    pub fn cell_named(&self, name: &[u8]) -> Result<u64, VarFault>
+        requires { IsText name.now }
+        ensures answer { result ≡ read self.now.vars Place.Frame name.now None }
+        ensures there { IfOk result (λ cell. HasPlace self.now.store (Cell cell)) }
+    {
+        self.vars.read(Place::Frame, name, None)
+    }
+
+    /// The cell of the variable whose name is the text of a place. As `cell_named`.
+    pub fn cell_at(&self, name: At) -> Result<u64, VarFault>
+        requires place { HasPlace self.now.store name }
+        requires made { IsMade self.now.store name }
+        ensures answer { result ≡ read self.now.vars Place.Frame (bytes_of (text_at self.now.store name)) None }
+        ensures there { IfOk result (λ cell. HasPlace self.now.store (Cell cell)) }
+    {
+        self.cell_named(self.lend(name))
+    }
+
+    /// Sets the variable whose name is the text of a place to the top text of the stack, which
+    /// moves into the variable's cell. After a refusal all is as before; it is one of
+    /// `tclv_vars::Vars::write`.
+    pub fn write_top(&mut self, name: At) -> Result<u64, VarFault>
+        requires place { HasPlace self.old.store name }
+        requires made { IsMade self.old.store name }
+        requires some { 0 < length self.old.store.stack }
+        ensures assigned { IfOk result (Assigned self.old self.new (bytes_of (text_at self.old.store name))) }
+        ensures there { IfOk result (λ cell. HasPlace self.new.store (Cell cell)) }
+        ensures refused { IfErr result (Refuses (write self.old.vars Place.Frame (bytes_of (text_at self.old.store name)) None)) }
+        ensures stack { OnErr result (self.new.store.stack ≡ self.old.store.stack) }
+        ensures same { OnErr result (SameVariables self.old self.new) }
+    {
+        let lacked = self
+            .vars
+            .missing(Place::Frame, lent(&self.store, name), None);
+        let (cell, fresh) = self
+            .vars
+            .write(Place::Frame, lent(&self.store, name), None)?;
+        match self.store.put_cell(cell) {
+            Ok(()) => Ok(cell),
+            Err(_) => {
+                if fresh {
+                    let name = lent(&self.store, name);
+                    self.vars.take_back(Place::Frame, name, None, lacked);
+                }
+                Err(VarFault::NoMemory)
+            }
+        }
+    }
+
+    /// Sets the variable of a name to a value, both as UTF-8. No variable of the name is an array.
+    /// After `NoMemory` all is as before.
+    pub fn set_named(&mut self, name: &[u8], value: &[u8]) -> Result<(), NoMemory>
+        requires name { IsText name.now }
+        requires value { IsText value.now }
+        ensures set { OnOk result (Sets self.old self.new name.now (chars value.now)) }
+        ensures stack { self.new.store.stack ≡ self.old.store.stack }
+        ensures same { OnErr result (SameVariables self.old self.new) }
+    {
+        let height = self.height();
+        self.push_text(name)?;
+        let done = self.set_at(At::Stack(height), value);
+        self.pop(1);
+        done
+    }
+
+    // Sets the variable whose name is the text of a place to a value.
+    fn set_at(&mut self, name: At, value: &[u8]) -> Result<(), NoMemory>
+        requires place { HasPlace self.old.store name }
+        requires value { IsText value.now }
+        ensures set { OnOk result (Sets self.old self.new (bytes_of (text_at self.old.store name)) (chars value.now)) }
+        ensures stack { self.new.store.stack ≡ self.old.store.stack }
+        ensures same { OnErr result (SameVariables self.old self.new) }
+    {
+        self.push_text(value)?;
+        match self.set_to_top(name) {
+            Ok(_) => Ok(()),
+            Err(_) => {
+                self.pop(1);
+                Err(NoMemory)
+            }
+        }
+    }
+
+    // Sets the variable whose name is the text of a place to the top text, which moves into its
+    // cell.
+    fn set_to_top(&mut self, name: At) -> Result<u64, VarFault>
+        requires place { HasPlace self.old.store name }
+        requires some { 0 < length self.old.store.stack }
+        ensures assigned { IfOk result (Assigned self.old self.new (bytes_of (text_at self.old.store name))) }
+        ensures stack { OnErr result (self.new.store.stack ≡ self.old.store.stack) }
+        ensures same { OnErr result (SameVariables self.old self.new) }
+    {
+        self.make_text(name)?;
+        self.write_top(name)
+    }
+
+    /// The elements of the list that the text of a place is. No text changes; where the text is no
+    /// list, the message and the error code are pushed.
+    pub fn elements(&mut self, list: At) -> Result<Elements, CmdFault>
+        requires { HasPlace self.old.store list }
+        ensures read { replies.Reads (list_of (text_at self.old.store list)) (λ ts x. x ≡ ts) self.old.store self.new.store result }
+        ensures same { SameVariables self.old self.new }
+    {
+        list_elements(&mut self.store, list)
+    }
+
+    /// Makes one text of the top `n`: their list, the lowest of them first.
+    pub fn push_list(&mut self, n: usize) -> Result<(), NoMemory>
+        requires { n ≤ length self.old.store.stack }
+        ensures pushed { OnOk result (self.new.store.stack ≡ under n self.old.store.stack ++ list_text (top n self.old.store.stack) ∷ []) }
+        ensures same { SameVariables self.old self.new }
+    {
+        self.store.push_list(n)
+    }
+
+    /// How much work was done.
+    pub fn stats(&self) -> Stats {
+        self.store.stats()
+    }
+}

@@ -1,0 +1,158 @@
+// Reading and writing variables.
+ghost use Rattle.std.specs.Prelude.{◌≡◌, ◌<◌, [], Err, length, unwrap_or};
+ghost use Rattle.std.specs.FinMap.{get};
+ghost use Rattle.tclv_model.specs.Message.{text_of};
+ghost use Rattle.tclv_engine.specs.Results.{done};
+ghost use Rattle.tclv_model.specs.ErrorCodes.{error_code};
+ghost use Rattle.std.specs.Str.{chars};
+ghost use Rattle.tclv_text.specs.Texts.{IsText};
+ghost use Rattle.tclv_value.specs.View.{HasPlace, IsMade, text_at};
+ghost use Rattle.tclv_engine.specs.Variables as spec;
+ghost use Rattle.tclv_engine.specs.Answers.{Answers, Pushes, PushesOne, KeepsStack, IsCalm, Raises, SameState, last_of, on_top};
+
+use crate::endings::End;
+use crate::machine::Machine;
+use crate::names::is_unbuilt;
+use tclv_model::{ErrorCode, MessageId};
+use tclv_value::At;
+use tclv_vars::VarFault;
+
+// Why a variable can't be read: the message and the error code.
+fn unreadable(fault: VarFault) -> (MessageId, ErrorCode)
+    ensures message { result.0 ≡ spec.reading_message fault }
+    ensures code { result.1 ≡ spec.reading_code fault }
+{
+    match fault {
+        VarFault::NoElement => (MessageId::NoSuchElement, ErrorCode::NoCode),
+        VarFault::IsArray => (MessageId::CannotReadArray, ErrorCode::NoCode),
+        VarFault::NotArray => (MessageId::CannotReadNonArray, ErrorCode::NoCode),
+        _ => (MessageId::NoSuchVariable, ErrorCode::UnknownVariable),
+    }
+}
+
+impl<W> Machine<W> {
+    /// Raises the error that something isn't built yet.
+    pub fn not_built(&mut self) -> End
+        ensures raises { Raises (text_of MessageId.NotBuilt [] []) (error_code ErrorCode.NoCode []) self.new.values.store.stack result }
+        ensures same { SameState self.old self.new }
+        ensures stack { KeepsStack {T = Unit {0}} self.old.values.store.stack (Err result) self.new.values.store.stack }
+    {
+        self.raise(MessageId::NotBuilt, b"", b"", ErrorCode::NoCode)
+    }
+
+    /// Pushes the value of the variable of a name, as UTF-8.
+    #[tactic(auto, using(crate::proofs::StackLemmas::pushes_one))]
+    pub fn push_variable(&mut self, name: &[u8]) -> Result<(), End>
+        requires { IsText name.now }
+        ensures answer { Answers (spec.variable (chars name.now)) on_top self.old result self.new }
+        ensures stack { PushesOne self.old.values.store.stack result self.new.values.store.stack }
+        ensures calm { IsCalm result }
+        ensures units { self.new.units ≡ self.old.units }
+    {
+        if is_unbuilt(name) {
+            return Err(self.not_built());
+        }
+        match self.values.cell_named(name) {
+            Ok(cell) => self.push_cell(cell),
+            Err(fault) => {
+                let (kind, code) = unreadable(fault);
+                Err(self.raise(kind, name, b"", code))
+            }
+        }
+    }
+
+    // Pushes the text of a cell.
+    fn push_cell(&mut self, cell: u64) -> Result<(), End>
+        requires { HasPlace self.old.values.store (At.Cell cell) }
+        ensures answer { Answers (λ st. done (unwrap_or (get st.texts cell) []) st) on_top self.old result self.new }
+        ensures stack { Pushes (text_at self.old.values.store (At.Cell cell)) self.old.values.store.stack result self.new.values.store.stack }
+        ensures calm { IsCalm result }
+        ensures units { self.new.units ≡ self.old.units }
+    {
+        self.values.push_copy(At::Cell(cell))?;
+        Ok(())
+    }
+
+    /// Pushes the value of the variable whose name is the text of a place.
+    pub fn push_variable_at(&mut self, name: At) -> Result<(), End>
+        requires { HasPlace self.old.values.store name }
+        ensures answer { Answers (spec.variable (text_at self.old.values.store name)) on_top self.old result self.new }
+        ensures stack { PushesOne self.old.values.store.stack result self.new.values.store.stack }
+        ensures calm { IsCalm result }
+        ensures units { self.new.units ≡ self.old.units }
+    {
+        self.values.make_text(name)?;
+        self.push_made_variable(name)
+    }
+
+    // The same, where the text of the name is made.
+    #[tactic(auto, using(crate::proofs::StackLemmas::pushes_one))]
+    fn push_made_variable(&mut self, name: At) -> Result<(), End>
+        requires place { HasPlace self.old.values.store name }
+        requires made { IsMade self.old.values.store name }
+        ensures answer { Answers (spec.variable (text_at self.old.values.store name)) on_top self.old result self.new }
+        ensures stack { PushesOne self.old.values.store.stack result self.new.values.store.stack }
+        ensures calm { IsCalm result }
+        ensures units { self.new.units ≡ self.old.units }
+    {
+        if is_unbuilt(self.values.lend(name)) {
+            return Err(self.not_built());
+        }
+        match self.values.cell_at(name) {
+            Ok(cell) => self.push_cell(cell),
+            Err(fault) => {
+                let (kind, code) = unreadable(fault);
+                Err(self.raise_at(kind, name, b"", code))
+            }
+        }
+    }
+
+    /// Sets the variable whose name is the text of a place to the top text of the stack, which
+    /// stays there.
+    pub fn assign_top(&mut self, name: At) -> Result<(), End>
+        requires place { HasPlace self.old.values.store name }
+        requires some { 0 < length self.old.values.store.stack }
+        ensures answer { Answers (spec.assign (text_at self.old.values.store name) (last_of self.old.values.store.stack)) on_top self.old result self.new }
+        ensures stack { KeepsStack self.old.values.store.stack result self.new.values.store.stack }
+        ensures calm { IsCalm result }
+        ensures units { self.new.units ≡ self.old.units }
+    {
+        self.values.make_text(name)?;
+        self.assign_made(name)
+    }
+
+    // The same, where the text of the name is made.
+    fn assign_made(&mut self, name: At) -> Result<(), End>
+        requires place { HasPlace self.old.values.store name }
+        requires made { IsMade self.old.values.store name }
+        requires some { 0 < length self.old.values.store.stack }
+        ensures answer { Answers (spec.assign (text_at self.old.values.store name) (last_of self.old.values.store.stack)) on_top self.old result self.new }
+        ensures stack { KeepsStack self.old.values.store.stack result self.new.values.store.stack }
+        ensures calm { IsCalm result }
+        ensures units { self.new.units ≡ self.old.units }
+    {
+        if is_unbuilt(self.values.lend(name)) {
+            return Err(self.not_built());
+        }
+        match self.values.write_top(name) {
+            Ok(cell) => self.push_cell(cell),
+            Err(fault) => Err(self.refuse_write(fault, name)),
+        }
+    }
+
+    // Raises the error that a variable can't be set.
+    fn refuse_write(&mut self, fault: VarFault, name: At) -> End
+        requires { HasPlace self.old.values.store name }
+        ensures refuses { spec.RefusesSetting fault (text_at self.old.values.store name) self.new.values.store.stack result }
+        ensures same { SameState self.old self.new }
+        ensures stack { KeepsStack {T = Unit {0}} self.old.values.store.stack (Err result) self.new.values.store.stack }
+    {
+        match fault {
+            VarFault::NoMemory => End::Memory,
+            VarFault::NotArray => {
+                self.raise_at(MessageId::CannotSetNonArray, name, b"", ErrorCode::NoCode)
+            }
+            _ => self.raise_at(MessageId::CannotSetArray, name, b"", ErrorCode::NoCode),
+        }
+    }
+}

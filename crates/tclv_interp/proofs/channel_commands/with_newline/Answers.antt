@@ -1,6 +1,0 @@
-use Rattle.std.proofs.Common.{rules, ◌∙◌}
-use Rattle.tclv_interp.proofs.ChannelLemmas.{line_bytes}
-use Rattle.tclv_interp.proofs.channel_commands.with_newline.Goals as goal
-
-pub returns : goal.returns
-returns c = (search rules) ∙ line_bytes c.args.text.now c.requires

@@ -1,7 +1,0 @@
-use Rattle.std.proofs.Common.{◌∙◌, refl}
-use Rattle.std.proofs.lemmas.Str.{chars-nil}
-use Rattle.tclv_interp.proofs.StackLemmas.{last-pushed}
-use Rattle.tclv_interp.proofs.machine.Machine.leave.Goals as goal
-
-pub returns-in-Ok-clause-leaves : goal.returns-in-Ok-clause-leaves
-returns-in-Ok-clause-leaves c = (refl, last-pushed _ _ _ c.in-Ok.ensures.pushed ∙ chars-nil)

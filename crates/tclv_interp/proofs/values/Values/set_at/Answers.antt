@@ -1,7 +1,0 @@
-use Rattle.std.specs.Str.{chars}
-use Rattle.tclv_interp.proofs.SettingLemmas.{sets}
-use Rattle.tclv_interp.proofs.values.Values.set_at.Goals as goal
-
-pub returns-in-Ok-clause-set : goal.returns-in-Ok-clause-set
-returns-in-Ok-clause-set c =
-    sets c.args.self.now c.push_text.new.self c.set_to_top.new.self c.args.name (chars c.args.value.now) c.in-Ok.field-0 c.requires.place c.in_ok-push_text.ensures.pushed c.in_ok-push_text.ensures.same c.in-Ok.ensures.assigned

@@ -1,0 +1,143 @@
+// The commands of the shell, as the evaluation calls them.
+ghost use Rattle.std.specs.Prelude.{◌≡◌, ◌<◌, ◌≤◌, length};
+ghost use Rattle.tclv_value.specs.Stacks.{top, under};
+ghost use Rattle.tclv_engine.specs.Answers.{AnswersOver, Caused, Leaves, last_of, outer};
+ghost use Rattle.tclv_engine.specs.Plans.{PlanOver, as_plan, concluded};
+ghost use Rattle.tclv_interp.specs.Commands as spec;
+
+use crate::builtins::{Builtin, resolve};
+use tclv_control::plan_control;
+use tclv_engine::{Carried, End, Ended, Host, Leaving, Machine, Plan};
+use tclv_io::Outside;
+use tclv_model::Code;
+use tclv_plain::{PlainCommand, run_plain};
+
+/// The tables that the commands keep of their own.
+#[derive(Drop)]
+pub struct Tables {}
+
+/// What is done behind a script.
+#[derive(Clone, Copy, Debug, PartialEq, Eq)]
+pub enum Behind {
+    /// Its outcome is the command's.
+    HandOn,
+}
+
+/// The commands of the shell.
+pub struct Commands {}
+
+// What a command wants done that evaluates nothing: it is run, and its result is there.
+fn plan_plain<O: Outside>(
+    machine: &mut Machine<Tables>,
+    out: &mut O,
+    command: PlainCommand,
+    n: usize,
+) -> Result<Plan<Behind>, End>
+    requires words { n ≤ length machine.old.values.store.stack }
+    requires some { 0 < n }
+    ensures answer { AnswersOver (spec.wanted_plain command (top n machine.old.values.store.stack)) as_plan machine.old (outer (O.told out.old) (O.torn out.old)) result machine.new (outer (O.told out.new) (O.torn out.new)) }
+    ensures stack { Leaves (PlanOver (under n machine.old.values.store.stack)) (under n machine.old.values.store.stack) result machine.new.values.store.stack }
+    ensures cause { Caused (O.faults out.old) (O.faults out.new) result }
+    ensures units { machine.new.units ≡ machine.old.units }
+{
+    run_plain(machine, out, command, n)?;
+    Ok(Plan::Finished(Carried::Plain))
+}
+
+// What a command that is built in wants done, whose words are the top n texts.
+#[tactic(auto, using(tclv_engine::proofs::Binds::calm_caused))]
+fn plan_builtin<O: Outside>(
+    machine: &mut Machine<Tables>,
+    out: &mut O,
+    builtin: Builtin,
+    n: usize,
+) -> Result<Plan<Behind>, End>
+    requires words { n ≤ length machine.old.values.store.stack }
+    requires some { 0 < n }
+    ensures answer { AnswersOver (spec.wanted builtin (top n machine.old.values.store.stack)) as_plan machine.old (outer (O.told out.old) (O.torn out.old)) result machine.new (outer (O.told out.new) (O.torn out.new)) }
+    ensures stack { Leaves (PlanOver (under n machine.old.values.store.stack)) (under n machine.old.values.store.stack) result machine.new.values.store.stack }
+    ensures cause { Caused (O.faults out.old) (O.faults out.new) result }
+    ensures units { machine.new.units ≡ machine.old.units }
+{
+    match builtin {
+        Builtin::Plain(command) => plan_plain(machine, out, command, n),
+        Builtin::Control(command) => plan_control(machine, command, n, Behind::HandOn),
+    }
+}
+
+// What the top n texts want done, as the words of a command.
+#[tactic(auto, using(tclv_engine::proofs::Binds::calm_caused))]
+fn plan<O: Outside>(
+    machine: &mut Machine<Tables>,
+    out: &mut O,
+    n: usize,
+) -> Result<Plan<Behind>, End>
+    requires words { n ≤ length machine.old.values.store.stack }
+    requires some { 0 < n }
+    ensures answer { AnswersOver (spec.plan_of (top n machine.old.values.store.stack)) as_plan machine.old (outer (O.told out.old) (O.torn out.old)) result machine.new (outer (O.told out.new) (O.torn out.new)) }
+    ensures stack { Leaves (PlanOver (under n machine.old.values.store.stack)) (under n machine.old.values.store.stack) result machine.new.values.store.stack }
+    ensures cause { Caused (O.faults out.old) (O.faults out.new) result }
+    ensures units { machine.new.units ≡ machine.old.units }
+{
+    let builtin = resolve(machine, n)?;
+    plan_builtin(machine, out, builtin, n)
+}
+
+// Hands on how a script ended, as the command's outcome.
+fn hand_on(ended: Ended) -> Result<Plan<Behind>, End>
+    ensures { result ≡ spec.handed_on ended }
+{
+    match ended {
+        Ended::Ok(kept) => Ok(Plan::Finished(kept)),
+        Ended::Left(Leaving::Error(errorcode)) => Err(End::Left(Leaving::Error(errorcode))),
+        Ended::Left(Leaving::Other(Code::Ok, kept)) => Ok(Plan::Finished(kept)),
+        Ended::Left(Leaving::Other(code, kept)) => Err(End::Left(Leaving::Other(code, kept))),
+    }
+}
+
+// What is done behind a script that ended so, whose result is the top text of the stack.
+fn finish<O: Outside>(
+    machine: &mut Machine<Tables>,
+    out: &mut O,
+    behind: Behind,
+    ended: Ended,
+) -> Result<Plan<Behind>, End>
+    requires { 0 < length machine.old.values.store.stack }
+    ensures answer { AnswersOver (spec.finish behind (concluded ended (last_of machine.old.values.store.stack))) as_plan machine.old (outer (O.told out.old) (O.torn out.old)) result machine.new (outer (O.told out.new) (O.torn out.new)) }
+    ensures stack { Leaves (PlanOver (under 1 machine.old.values.store.stack)) (under 1 machine.old.values.store.stack) result machine.new.values.store.stack }
+    ensures cause { Caused (O.faults out.old) (O.faults out.new) result }
+    ensures units { machine.new.units ≡ machine.old.units }
+{
+    let _machine = machine;
+    let _out = out;
+    match behind {
+        Behind::HandOn => hand_on(ended),
+    }
+}
+
+impl Host for Commands {
+    type Own = Tables;
+
+    type Behind = Behind;
+
+    ghost given = { record { plan = spec.plan_of; finish = spec.finish } };
+
+    fn plan<O: Outside>(
+        &self,
+        machine: &mut Machine<Tables>,
+        out: &mut O,
+        n: usize,
+    ) -> Result<Plan<Behind>, End> {
+        plan(machine, out, n)
+    }
+
+    fn finish<O: Outside>(
+        &self,
+        machine: &mut Machine<Tables>,
+        out: &mut O,
+        behind: Behind,
+        ended: Ended,
+    ) -> Result<Plan<Behind>, End> {
+        finish(machine, out, behind, ended)
+    }
+}

@@ -1,0 +1,30 @@
+use Rattle.std.proofs.Common.{rules, sym, ◌∙◌, ◌∷◌, []}
+use Rattle.tclv_value.specs.View.{text_at}
+use Rattle.tclv_plain.specs.ChannelRows.{put_three}
+use Rattle.tclv_model.specs.declared.usages.Usage.TheVariants as command
+use Rattle.tclv_model.specs.Usages.{usage_of}
+use Rattle.tclv_engine.proofs.Binds.{runs_as}
+use Rattle.tclv_engine.proofs.Leaves.{memory_runs}
+use Rattle.tclv_plain.proofs.PutLemmas.{three_option, three_refused}
+use Rattle.tclv_engine.proofs.WordLemmas.{after_same, text_kept, usage_runs}
+use Rattle.tclv_plain.proofs.channel_commands.put_three.Goals as goal
+
+pub returns-in_err-is_option-clause-answer : goal.returns-in_err-is_option-clause-answer
+returns-in_err-is_option-clause-answer g c w told = memory_runs (search rules) told c.in_err-is_option.ensures.same.events
+
+pub returns-then-is_option-clause-answer : goal.returns-then-is_option-clause-answer
+returns-then-is_option-clause-answer g c w told =
+    let store = c.args.machine.now.values.store in
+    let kept = c.in_ok-is_option.ensures in
+    after_same (λ st. put_three (text_at store c.args.word) (text_at store c.args.option) (text_at store c.args.channel) (text_at store c.args.text) st) c.args.machine.now c.is_nonewline_at.new.machine
+    (runs_as (three_option (text_at store c.args.word) (text_at store c.args.option) _ _ _ _ _ (sym kept.answer ∙ c.if-is_option.true) (text_kept store c.is_nonewline_at.new.machine.values.store c.args.channel kept.stack kept.same.variables.cells) (text_kept store c.is_nonewline_at.new.machine.values.store c.args.text kept.stack kept.same.variables.cells)) (c.put_named.ensures.answer w told))
+    kept.same
+
+pub returns-else-is_option-clause-answer : goal.returns-else-is_option-clause-answer
+returns-else-is_option-clause-answer g c w told =
+    let store = c.args.machine.now.values.store in
+    let kept = c.in_ok-is_option.ensures in
+    after_same (λ st. put_three (text_at store c.args.word) (text_at store c.args.option) (text_at store c.args.channel) (text_at store c.args.text) st) c.args.machine.now c.is_nonewline_at.new.machine
+    (runs_as (three_refused (text_at store c.args.word) (text_at store c.args.option) (text_at store c.args.channel) (text_at store c.args.text) _ (sym kept.answer ∙ c.if-is_option.false))
+    (usage_runs c.is_nonewline_at.new.machine (usage_of command.Puts) _ (text_at store c.args.word ∷ text_at store c.args.option ∷ text_at store c.args.channel ∷ text_at store c.args.text ∷ []) told c.misused.ensures.same (text_kept store c.is_nonewline_at.new.machine.values.store c.args.word kept.stack kept.same.variables.cells) c.misused.ensures.raises))
+    kept.same

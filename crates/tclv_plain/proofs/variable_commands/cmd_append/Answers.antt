@@ -1,0 +1,25 @@
+use Rattle.std.proofs.Common.{rules, ap, ◌∙◌, ◌-◌, [], get_or}
+use Rattle.tclv_engine.specs.State.{state_of}
+use Rattle.tclv_value.specs.Stacks.{top}
+use Rattle.tclv_model.specs.declared.usages.Usage.TheVariants as command
+use Rattle.tclv_model.specs.Usages.{usage_of}
+use Rattle.tclv_engine.proofs.Binds.{runs_as}
+use Rattle.tclv_engine.proofs.WordLemmas.{usage_runs, first_of_top}
+use Rattle.tclv_plain.proofs.VariableRowLemmas.{append_refused, append_reads, append_values}
+use Rattle.tclv_plain.proofs.variable_commands.cmd_append.Goals as goal
+
+pub returns-in-1-clause-answer : goal.returns-in-1-clause-answer
+returns-in-1-clause-answer g c here w told =
+    let stack = c.args.machine.now.values.store.stack in
+    runs_as (append_refused stack c.args.n (state_of c.args.machine.now w) c.in-1.is c.requires.words)
+    (usage_runs c.args.machine.now (usage_of command.Append) _ (top c.args.n stack) told c.misused.ensures.same
+    (ap (λ l. get_or stack (l - c.args.n) []) c.height.ensures ∙ first_of_top stack c.args.n c.requires.some c.requires.words) c.misused.ensures.raises)
+
+pub returns-in-2-clause-answer : goal.returns-in-2-clause-answer
+returns-in-2-clause-answer g c here w told =
+    runs_as (append_reads c.args.machine.now.values.store.stack c.args.n _ (state_of c.args.machine.now w) c.in-2.is c.requires.words (ap (λ l. l - c.args.n) c.height.ensures)) (c.read_result.ensures.answer here w told)
+
+pub returns-in_default-clause-answer : goal.returns-in_default-clause-answer
+returns-in_default-clause-answer g c here w told =
+    runs_as (append_values c.args.machine.now.values.store.stack c.args.n _ (state_of c.args.machine.now w) c.requires.some (λ e. search (rules, e, c.in_default)) (λ e. search (rules, e, c.in_default)) c.requires.words (ap (λ l. l - c.args.n) c.height.ensures))
+    (c.append_all.ensures.answer here w told)
