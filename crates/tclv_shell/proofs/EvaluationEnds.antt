@@ -13,10 +13,11 @@ use Rattle.tclv_model.specs.Message.{text_of}
 use Rattle.tclv_interp.specs.declared.interpreters.Interp.{Interp}
 use Rattle.tclv_interp.specs.declared.interpreters.Stop.{Stop}
 use Rattle.tclv_interp.specs.declared.interpreters.Stop.TheVariants as stop
-use Rattle.tclv_interp.specs.State.{Text}
-use Rattle.tclv_interp.specs.Results.{Ending, Res, Outcome}
-use Rattle.tclv_interp.specs.Results as ending
-use Rattle.tclv_interp.specs.Answers.{outer, AtWorld}
+use Rattle.tclv_engine.specs.State.{Text}
+use Rattle.tclv_engine.specs.Results.{Ending, Outcome}
+use Rattle.tclv_interp.specs.Commands.{Res}
+use Rattle.tclv_engine.specs.Results as ending
+use Rattle.tclv_engine.specs.Answers.{outer, AtWorld}
 use Rattle.tclv_interp.specs.Interpreters.{state_over, writes_of, evaluation, EndsWith, Happened, CutShort, Evaluates, StopCause, options_at, result_of}
 use Rattle.tclv_shell.specs.declared.halts.Halt.TheVariants.{Device, Memory}
 use Rattle.tclv_shell.specs.Halts.{Seen, seen}

@@ -7,7 +7,7 @@ use Rattle.std.specs.FinMap as finite
 use Rattle.tclv_io.specs.World.{World}
 use Rattle.tclv_io.specs.Events.{shown}
 use Rattle.tclv_model.specs.declared.reports.Report.{Report}
-use Rattle.tclv_interp.specs.State.{Text}
+use Rattle.tclv_engine.specs.State.{Text}
 use Rattle.tclv_shell.specs.declared.script_files.Loaded.TheVariants as loaded
 use Rattle.tclv_shell.specs.Words.{Invocation}
 use Rattle.tclv_shell.specs.Halts.{Seen, SeesSame}

@@ -1,5 +1,5 @@
 -- What a run means, and what a report says of it.
-use Rattle.std.specs.Prelude.{ℕ, ◌+◌, ◌-◌, ◌≡◌, ◌<◌, ◌≤◌, nat_lt, ◌^◌, if◌then◌else◌, List, [], ◌∷◌, ◌++◌, length, drop, map, Option, Some, None, pos, codes}
+use Rattle.std.specs.Prelude.{ℕ, ◌+◌, ◌-◌, ◌≡◌, ◌⊎◌, ◌<◌, ◌≤◌, nat_lt, ◌^◌, if◌then◌else◌, List, [], ◌∷◌, ◌++◌, length, drop, map, Option, Some, None, pos, codes}
 use Rattle.std.specs.FinMap as finite
 use Rattle.std.specs.Str.{chars, is_utf8}
 use Rattle.tclv_text.specs.Numbers.{whole_text}
@@ -14,10 +14,11 @@ use Rattle.tclv_model.specs.Message.{text_of}
 use Rattle.tclv_io.specs.World.{World, Out, Errors}
 use Rattle.tclv_io.specs.Events.{Event, Wrote, After, next_length}
 use Rattle.tclv_io.specs.Causes.{Rose}
-use Rattle.tclv_interp.specs.State.{Text, State}
-use Rattle.tclv_interp.specs.Results.{Ending, Outcome}
-use Rattle.tclv_interp.specs.Results as ending
-use Rattle.tclv_interp.specs.Variables.{assign}
+use Rattle.tclv_engine.specs.State.{Text}
+use Rattle.tclv_interp.specs.Commands.{State}
+use Rattle.tclv_engine.specs.Results.{Ending, Outcome}
+use Rattle.tclv_engine.specs.Results as ending
+use Rattle.tclv_engine.specs.Variables.{assign}
 use Rattle.tclv_interp.specs.Interpreters.{blank, evaluation}
 use Rattle.tclv_shell.specs.Halts.{Seen}
 use Rattle.tclv_shell.specs.Words.{Invocation, invocation_of}
@@ -71,9 +72,13 @@ meaning_of_evaluation script st = let r = evaluation script st in meaning_of_end
 abbrev pub with_variable : Text → Text → State → State
 with_variable name value st = (assign name value st).after
 
--- The state that a script file starts in: no variables but `argv0`, the file's name, `argc`, the count of arguments, and `argv`, the list of them; and all units.
+-- The state that a script file starts in: all units, and no variables but these, set in this order: `argv0`, the file's name; `argv`, the list of
+-- arguments; and `argc`, the count of them.
 unfoldable pub start : Invocation → World → State
-start i world = with_variable (codes "argv") (list_text (map chars i.args)) (with_variable (codes "argc") (whole_text (pos (length i.args))) (with_variable (codes "argv0") (chars i.file) (blank i.budget world)))
+start i world =
+    with_variable (codes "argc") (whole_text (pos (length i.args)))
+    (with_variable (codes "argv") (list_text (map chars i.args))
+    (with_variable (codes "argv0") (chars i.file) (blank i.budget world)))
 
 -- the script of a file that is this text
 abbrev pub meaning_of_script : Invocation → List ℕ → World → Meaning
@@ -131,6 +136,10 @@ pub record MeansAll (meaning : Meaning) (before : Out) (after : Option Out) (rep
   pub status : report.status ≡ meaning.status
   pub writes : report.writes ≡ length meaning.events
   pub out : after ≡ Some (After before meaning.events report.writes 0)
+
+-- all is as the meaning says, or memory ran out
+abbrev pub Completes : Meaning → Out → Option Out → Report → Type 0
+Completes meaning before after report = MeansAll meaning before after report ⊎ (report.end ≡ Memory)
 
 -- the first events happened, and of the next the `part` bytes that a failed write took
 pub record MeansPrefix (meaning : Meaning) (before : Out) (after : Option Out) (torn_before torn_after : ℕ) (report : Report) : Type 0 where

@@ -6,12 +6,8 @@
 #![tactic(auto)]
 
 mod arguments;
-#[cfg(test)]
-mod expression_tests;
 mod file_ends;
 mod final_messages;
-#[cfg(test)]
-mod flow_tests;
 mod halts;
 mod script_ends;
 mod script_files;

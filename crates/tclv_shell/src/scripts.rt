@@ -44,10 +44,10 @@ fn prepared(alloc: Global, call: Invocation<'_>, script: &Text) -> Result<(Inter
 {
     let mut interp = Interp::new(alloc, call.budget)?;
     interp.set_global(b"argv0", call.file.as_bytes())?;
-    let count = count_text(alloc, call.args.len())?;
-    interp.set_global(b"argc", count.bytes())?;
     let list = list_text(alloc, call.args)?;
     interp.set_global(b"argv", list.bytes())?;
+    let count = count_text(alloc, call.args.len())?;
+    interp.set_global(b"argc", count.bytes())?;
     let at = interp.push_script(script.bytes())?;
     Ok((interp, at))
 }

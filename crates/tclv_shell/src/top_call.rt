@@ -7,7 +7,7 @@ ghost use Rattle.tclv_io.specs.Events.{shown};
 ghost use Rattle.tclv_shell.specs.Halts.{seen};
 ghost use Rattle.tclv_shell.specs.Lent.{lent};
 ghost use Rattle.tclv_shell.specs.Words.{invocation_of};
-ghost use Rattle.tclv_shell.specs.Run.{Run, Follows, MeansAll, MeansPrefix, IsComplete, IsCutShort, HasStatus, message_only, meaning_of_file};
+ghost use Rattle.tclv_shell.specs.Run.{Run, Follows, MeansAll, MeansPrefix, Completes, IsComplete, IsCutShort, HasStatus, message_only, meaning_of_file};
 
 use crate::final_messages::say;
 use crate::halts::cut_short;
@@ -48,16 +48,17 @@ fn run_file<O: Outside>(alloc: Global, call: Invocation<'_>, out: &mut O) -> Rep
 /// A file's name isn't empty and doesn't begin with `-`.
 ///
 /// The script file is opened, read to its end and closed; then its size is looked at, and whether
-/// it is UTF-8. In its text CR LF and a lone CR become newlines. Then its commands run, with `argv0`
-/// set to the file's name, `argc` to the count of arguments and `argv` to the list of them; each
-/// command takes a unit of the budget.
+/// it is UTF-8. In its text CR LF and a lone CR become newlines. Then its commands run, with these
+/// variables, set in this order: `argv0`, the file's name, `argv`, the list of arguments, and `argc`,
+/// the count of them. Each command takes a unit of the budget.
 ///
 /// The report's `end` is `Done` where all commands ran, or where `exit` ended the run with a status
 /// of its own; `Failed` where the script ended with an error, and where its file isn't there, is
 /// too large or isn't UTF-8; `Usage` where the words aren't in form; `Budget` where no unit was
 /// left. In the last three cases a message goes to standard error with a newline behind it. The end
 /// is `Device` where the device failed and `Memory` where memory ran out; then nothing more is
-/// written.
+/// written. Where no fault of a device was counted in the run and the count is below its last value,
+/// the run does all that its meaning says, or its end is `Memory`.
 pub fn run<O: Outside>(alloc: Global, words: &Vec<String>, out: &mut O) -> Report
     // Where the run comes to its own end, all is as its meaning says.
     ensures all { WhereTold (O.told out.old) (λ w. IsComplete result.end → MeansAll (Run (map string_bytes words.now.items) w) w.out (shown (O.told out.new)) result) }
@@ -65,6 +66,11 @@ pub fn run<O: Outside>(alloc: Global, words: &Vec<String>, out: &mut O) -> Repor
     // Where it is cut short, the first events of its meaning happened, and of the next what a
     // failed write took of it.
     ensures prefix { WhereTold (O.told out.old) (λ w. IsCutShort result.end → MeansPrefix (Run (map string_bytes words.now.items) w) w.out (shown (O.told out.new)) (O.torn out.old) (O.torn out.new) result) }
+
+    // Where no fault is counted and the count is below its last value, all is as the meaning says,
+    // or memory ran out.
+    ensures complete { WhereTold (O.told out.old) (λ w. (Rose (O.faults out.old) (O.faults out.new) → ⊥) →
+        Completes (Run (map string_bytes words.now.items) w) w.out (shown (O.told out.new)) result) }
 
     // A device's fault ends the run, and nothing else ends it so.
     ensures device { result.end ≡ End.Device → Rose (O.faults out.old) (O.faults out.new) }

@@ -3,7 +3,7 @@ use Rattle.tclv_model.specs.declared.reports.End.TheVariants.{Budget}
 use Rattle.tclv_model.specs.declared.messages.MessageId.TheVariants.{CommandLimitExceeded}
 use Rattle.tclv_model.specs.Message.{text_of}
 use Rattle.tclv_shell.specs.Run.{FollowsBehind, with_message}
-use Rattle.tclv_interp.specs.Answers.{outer}
+use Rattle.tclv_engine.specs.Answers.{outer}
 use Rattle.tclv_interp.specs.Interpreters.{state_over, result_of, options_at, writes_of, evaluation, script_at, Evaluates, StopCause}
 use Rattle.tclv_shell.specs.Halts.{seen}
 use Rattle.tclv_shell.proofs.EvaluationEnds.{code_follows, budget_follows, device_follows, memory_follows}
