@@ -4,7 +4,7 @@ use Rattle.std.specs.Prelude.{unwrap_or}
 use Rattle.std.proofs.lemmas.Bool.{cases_lt}
 use Rattle.tclv_heap.specs.declared.ids.Object.{Object}
 use Rattle.tclv_heap.specs.Table.{Table}
-use Rattle.tclv_heap.specs.Graph.{Graph, stuck, at, text_in, occurs, Updates, held, holds, form_parts, IsCounted, Takes, Leads}
+use Rattle.tclv_heap.specs.Graph.{Graph, stuck, at, text_in, occurs, Updates, held, holds, form_parts, IsCounted, HasOutside, Takes, Leads}
 use Rattle.tclv_heap.specs.Dying.{Dying}
 use Rattle.tclv_heap.specs.Stands.{depth_for, depth_of, said, stands, IsSpoken, SaysSame, IsSound, FitsDepth}
 use Rattle.tclv_heap.specs.Graph.Leads.{here}
@@ -143,7 +143,7 @@ module _ {F : Type 0} (t : Table F) where
   some_value None h = absurd (cc)
   some_value (Some x) h = (x, refl)
 
-  still_there : (g : Graph F) (o : ℕ) (n m : Object F) → at g o ≡ Some n → (p : ℕ) → IsSome (at g p) → IsSome (at (set g o (Some m)) p)
+  pub still_there : (g : Graph F) (o : ℕ) (n m : Object F) → at g o ≡ Some n → (p : ℕ) → IsSome (at g p) → IsSome (at (set g o (Some m)) p)
   still_there g o n m is p there = elim (at_cases g (set g o (Some m)) o (Some m) (Updates_set g o n (Some m) is) p) [
     | inl w ↦ ap is_some w.1
     | inr w ↦ subst IsSome (sym w.1) there
@@ -193,3 +193,14 @@ module _ {F : Type 0} (t : Table F) where
                 others = u.others;
               },
         )
+
+-- an object that has a holder outside stays where it gets another form
+pub Reformed_stays : {F : Type 0} (parts : F → List ℕ) (g mid new : Graph F) (o : ℕ) (n m : Object F) (f : F) → at g o ≡ Some n → Updates g mid o (Some m) → m.count ≡ n.count → m.form ≡ Some f → ((p : ℕ) → 0 < occurs p (parts f) → Leads parts g p o → ⊥) → HasOutside parts g o 1 → Dying parts mid (form_parts parts n.form) [] new → IsSome (at new o)
+Reformed_stays {F} parts g mid new o n m f is u count form apart outside dying = by_slot (at new o) refl
+  where
+    by_slot : (slot : Option (Object F)) → at new o ≡ slot → IsSome (at new o)
+    by_slot (Some x) e = ap is_some e
+    by_slot None e =
+        let went = dying.gone o m u.changed e in
+        let free : occurs o (parts f) ≡ 0 = elim (cases_lt 0 (occurs o (parts f))) [ inl some ↦ absurd (apart o some here) | inr none ↦ omega arith ] in
+        absurd (omega (arith, went.1, count, outside.outside n is (λ s. went.0 (count ∙ s)), held_updates parts g mid o (Some m) u o, ap (holds parts o) is, ap (λ x. occurs o (form_parts parts x)) form, free))

@@ -7,3 +7,6 @@ pub mod TextLemmas
 pub mod CopyLemmas
 pub mod RetextLemmas
 pub mod HoldersLemmas
+pub mod OpenLemmas
+pub mod CounterLemmas
+pub mod AddTextLemmas

@@ -52,6 +52,10 @@ module _ {F : Type 0} where
   abbrev pub new_object : Option (List ℕ) → Option F → ℕ → Object F
   new_object text form depth = record { count = 1; text = text; form = form; depth = depth; next = None }
 
+  -- the object with another text, and without a form
+  abbrev pub retexted : Object F → List ℕ → Object F
+  retexted n text = record n { text = Some text; form = None; depth = 0 }
+
   -- the object with so many more holders, up to the count that stays
   abbrev pub counted_up : Object F → ℕ → Object F
   counted_up n more = record n { count = min (n.count + more) stuck }

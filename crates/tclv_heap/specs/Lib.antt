@@ -2,6 +2,9 @@ pub mod Table
 pub mod Graph
 pub mod Dying
 pub mod Stands
+pub mod Open
 pub mod Holders
 pub mod Noted
+pub mod Counters
 pub mod Links
+pub mod Extended

@@ -1,5 +1,5 @@
 -- What an object stands for, and when a graph is sound.
-use Rattle.std.specs.Prelude.{◌≡◌, ℕ, zero, suc, ◌+◌, ◌⊎◌, ◌<◌, ◌≤◌, List, [], map, Option, Some, None, IsSome}
+use Rattle.std.specs.Prelude.{◌≡◌, ◌≢◌, ℕ, zero, suc, ◌+◌, ◌⊎◌, ◌<◌, ◌≤◌, List, [], map, Option, Some, None, IsSome}
 use Rattle.tclv_heap.specs.declared.ids.Object.{Object}
 use Rattle.tclv_heap.specs.Table.{Table, Alike}
 use Rattle.tclv_heap.specs.Graph.{Graph, at, occurs, held, form_parts, text_in, form_in, depth_in, Leads, IsCounted, SharedBy}
@@ -76,6 +76,10 @@ module _ {F : Type 0} (t : Table F) where
   -- each object that was there and is there stands for the same
   abbrev pub SaysSame : Graph F → Graph F → Type 0
   SaysSame old new = (o : ℕ) → IsSome (at old o) → IsSome (at new o) → stands new o ≡ stands old o
+
+  -- each other object that was there and is there stands for the same
+  abbrev pub SaysSameBut : ℕ → Graph F → Graph F → Type 0
+  SaysSameBut o old new = (x : ℕ) → x ≢ o → IsSome (at old x) → IsSome (at new x) → stands new x ≡ stands old x
 
   -- what each call keeps: a sound graph, what each object stands for, and that each has a text or a form
   pub record Keeps (old new : Graph F) : Type 0 where

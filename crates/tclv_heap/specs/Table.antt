@@ -1,5 +1,5 @@
 -- What a table of types says of its forms.
-use Rattle.std.specs.Prelude.{◌≡◌, ◌↔◌, ℕ, List}
+use Rattle.std.specs.Prelude.{◌≡◌, ◌↔◌, ℕ, Bool, List}
 
 pub record Table (F : Type 0) : Type 1 where
   -- the parts of a form, in order
@@ -8,6 +8,8 @@ pub record Table (F : Type 0) : Type 1 where
   pub Spells : F → Type 0
   -- the text that the form gives, from the texts of its parts
   pub spelled : F → List (List ℕ) → List ℕ
+  -- to set the form on an object counts as reading the object's text
+  pub counts : F → Bool
   -- this text, when it is read, gives the form, whose parts have these texts
   pub Fits : List ℕ → F → List (List ℕ) → Type 0
   -- what a form spells fits it

@@ -10,15 +10,20 @@
 //! - The graph stays sound. No object reaches itself, and each part is there. A count counts each
 //!   holder, or stays at the greatest `u64` for good. A text with a form fits it, and a form without
 //!   a text spells. Values without a text nest at most 50 deep.
-//! - What an object stands for is never changed: its text, or what its form spells from its parts.
+//! - What an object stands for, its text or what its form spells from its parts, changes only by
+//!   `put_form` and `add_text`, of an object that one holder alone has, and with it of those above it.
 //! - An object goes exactly as its last holder goes. Its parts are released with it, without memory
 //!   and without recursion.
+//! - A form is taken out and put back only where nothing else holds the object and nothing above it has
+//!   a text. In between the object is open, and no other one is.
+//! - The counters say how much was read into forms, written as strings, and copied.
 //! - The one refusal is `NoMemory`, and after it everything is as before.
 //!
 //! What a form is, the caller's table of types says: the trait `Types`.
 #![tactic(auto)]
 
 mod copies;
+mod counting;
 mod ids;
 mod kids;
 mod objects;

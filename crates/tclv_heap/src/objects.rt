@@ -1,12 +1,13 @@
 // The heap: its objects, and the calls that make, hold, change and read them.
-ghost use Rattle.std.specs.Prelude.{◌≡◌, ◌∷◌, ◌++◌, [], ◌<◌, ◌≤◌, ◌+◌, ◌≢◌, ℕ, List, map, min, Option, Some, None, IsSome, IfSome, IfNone, IfOk, OnOk, OnErr, slice_set};
+ghost use Rattle.std.specs.Prelude.{◌≡◌, ◌∷◌, ◌++◌, [], ◌<◌, ◌≤◌, ◌+◌, ◌≢◌, ℕ, List, map, length, cond, Option, Some, None, IsSome, IfSome, IfNone, IfOk, OnOk, OnErr, slice_set};
 ghost use Rattle.std.specs.Str.{chars};
 ghost use Rattle.tclv_text.specs.Texts.{IsText};
 
 use crate::copies::{copy_object, share_parts};
+use crate::counting::points_read;
 use crate::ids::{ObjId, Object};
 use crate::release::{release_form, release_one};
-use crate::strings::make_text;
+use crate::strings::{extend_text, make_text};
 use crate::table::Types;
 use slab::Slab;
 use std::alloc::Global;
@@ -40,10 +41,12 @@ impl<T: Types> Model for Heap<T> {
 
 impl<T: Types> Heap<T> {
     ghost use Rattle.tclv_heap.specs.declared.ids.Object.{Object};
-    ghost use Rattle.tclv_heap.specs.Graph.{at, new_object, counted_up, Updates, Adds, HasOutside, held, occurs, stuck, form_parts, count_in, text_in, form_in, depth_in, Takes, Leads};
+    ghost use Rattle.tclv_heap.specs.Graph.{at, new_object, counted_up, retexted, Updates, Adds, HasOutside, held, occurs, stuck, form_parts, parts_at, count_in, text_in, form_in, depth_in, Takes, Leads};
+    ghost use Rattle.tclv_heap.specs.Counters.{raised, text_size, Writes};
     ghost use Rattle.tclv_heap.specs.Dying.{Releases};
     ghost use Rattle.tclv_heap.specs.Holders.{Passes};
-    ghost use Rattle.tclv_heap.specs.Stands.{stands, said_by, FitsDepth, depth_of, Tells, TellsBelow, Keeps, HasText, HasForm, Duplicates, Retexted, IsSound};
+    ghost use Rattle.tclv_heap.specs.Stands.{stands, said_by, FitsDepth, depth_of, Tells, TellsBelow, Keeps, SaysSameBut, HasText, HasForm, Duplicates, Retexted, IsSound, IsClosed};
+    ghost use Rattle.tclv_heap.specs.Open.{IsOpen, IsClosedBut, IsUntold, IsBelow, SaysSameBelow, SaysByForm};
 
     /// A heap without objects, over this table of types.
     pub fn new(alloc: Global, types: T) -> Heap<T>
@@ -167,14 +170,24 @@ impl<T: Types> Heap<T> {
         ensures set { (n : Object T.Form) → at self.old.graph id ≡ Some n → Releases T.table.parts
             (slice_set self.old.graph id (Some (record n { form = Some form; depth = depth })))
             (form_parts T.table.parts n.form) self.new.graph }
+        ensures stays { HasOutside T.table.parts self.old.graph id 1 → IsSome (at self.new.graph id) }
+        ensures rest_stays { (n : Object T.Form) → at self.old.graph id ≡ Some n
+            → form_parts T.table.parts n.form ≡ [] → self.new.graph
+            ≡ slice_set self.old.graph id (Some (record n { form = Some form; depth = depth })) }
         ensures holders { Passes T.table.parts self.old.graph (T.table.parts form) self.new.graph [] }
         ensures keeps { Keeps T.table self.old.graph self.new.graph }
-        ensures rest { self.new ≡ record self.old { graph = self.new.graph } }
+        ensures rest { self.new ≡ record self.old { graph = self.new.graph; stats = self.new.stats } }
+        ensures read { self.new.stats ≡ record self.old.stats {
+          read = raised self.old.stats.read
+              (cond (T.table.counts form) (text_size (at self.old.graph id)) 0);
+        } }
     {
         let object = &mut self.objects[id.0];
+        let read = points_read(&self.types, &object.text, &form);
         object.depth = depth;
         let old = mem::replace(&mut object.form, Some(form));
         release_form(&self.types, &mut self.objects, &old);
+        self.stats.read = self.stats.read.saturating_add(read);
     }
 
     /// Makes the text of an object: what its form spells. Where parts have no texts, theirs are made
@@ -189,10 +202,17 @@ impl<T: Types> Heap<T> {
             self.old.graph self.new.graph }
         ensures holders { Passes T.table.parts self.old.graph [] self.new.graph [] }
         ensures keeps { Keeps T.table self.old.graph self.new.graph }
-        ensures rest { self.new ≡ record self.old { graph = self.new.graph } }
+        ensures rest { self.new ≡ record self.old {
+          graph = self.new.graph;
+          stats = record self.old.stats { spelled = self.new.stats.spelled };
+        } }
+        ensures spelled { OnOk result (Writes self.old.graph self.new.graph
+            self.old.stats.spelled self.new.stats.spelled) }
         ensures refused { OnErr result (self.new ≡ self.old) }
     {
-        make_text(&self.types, self.alloc, &mut self.objects, id)
+        let written = make_text(&self.types, self.alloc, &mut self.objects, id)?;
+        self.stats.spelled = self.stats.spelled.saturating_add(written);
+        Ok(())
     }
 
     /// Makes a copy of an object, with one holder outside. It has the form once more, whose parts are
@@ -205,16 +225,105 @@ impl<T: Types> Heap<T> {
         ensures holders { IfOk result (λ c.
             Passes T.table.parts self.old.graph [] self.new.graph (c ∷ [])) }
         ensures keeps { Keeps T.table self.old.graph self.new.graph }
-        ensures rest { self.new ≡ record self.old { graph = self.new.graph } }
+        ensures rest { self.new ≡ record self.old { graph = self.new.graph; stats = self.new.stats } }
+        ensures copied { OnOk result (self.new.stats ≡ record self.old.stats {
+          copied
+              = raised self.old.stats.copied (length (parts_at T.table.parts self.old.graph id));
+        }) }
         ensures refused { OnErr result (self.new ≡ self.old) }
     {
         let object = &self.objects[id.0];
         let depth = object.depth;
         let (text, form) = copy_object(&self.types, self.alloc, object)?;
         self.objects.reserve(1)?;
-        share_parts(&self.types, &mut self.objects, &form);
+        let parts = share_parts(&self.types, &mut self.objects, &form);
+        self.stats.copied = self.stats.copied.saturating_add(parts);
         let key = self.objects.insert_reserved(Object::new(text, form, depth));
         Ok(ObjId(key))
+    }
+
+    /// Takes the form out of an object that nothing else holds, and its text away: no other object is
+    /// open, and none that leads down to this one has a text. The parts pass to the caller. The object
+    /// is open until `put_form`: it has neither text nor form, and what those that lead down to it
+    /// stand for is not spoken of. Takes no memory.
+    pub fn take_form(&mut self, id: ObjId) -> T::Form
+        requires formed { IsSome (form_in (at self.old.graph id)) }
+        requires alone { count_in (at self.old.graph id) ≡ 1 }
+        requires closed { IsClosed self.old.graph }
+        requires untold { IsUntold T.table.parts self.old.graph id }
+        ensures form { form_in (at self.old.graph id) ≡ Some result }
+        ensures taken { (n : Object T.Form) → at self.old.graph id ≡ Some n
+            → Updates self.old.graph self.new.graph id
+            (Some (record n { text = None; form = None; depth = 0 })) }
+        ensures holders { Passes T.table.parts self.old.graph [] self.new.graph (T.table.parts result) }
+        ensures says { SaysSameBelow T.table id self.old.graph self.new.graph }
+        ensures sound { IsSound T.table self.new.graph }
+        ensures closed { IsClosedBut self.new.graph id }
+        ensures rest { self.new ≡ record self.old { graph = self.new.graph } }
+    {
+        let object = &mut self.objects[id.0];
+        object.text = None;
+        object.depth = 0;
+        match object.form.take() {
+            Some(form) => form,
+            None => unreachable!(),
+        }
+    }
+
+    /// Gives the open object a form that spells. The parts of the form, which don't lead to the object,
+    /// pass from the caller to the object. The depth is from 1 to 50, above that of each part and below
+    /// that of each object that holds this one. Those that lead down to it have no text. Takes no memory.
+    pub fn put_form(&mut self, id: ObjId, form: T::Form, depth: u64)
+        requires opened { IsOpen (at self.old.graph id) }
+        requires spells { T.table.Spells form }
+        requires takes { Takes T.table.parts self.old.graph (T.table.parts form) }
+        requires apart { (p : ℕ) → 0 < occurs p (T.table.parts form)
+            → Leads T.table.parts self.old.graph p id → ⊥ }
+        requires depth { FitsDepth T.table self.old.graph form depth }
+        requires below { IsBelow T.table.parts self.old.graph id depth }
+        requires untold { IsUntold T.table.parts self.old.graph id }
+        ensures put { (n : Object T.Form) → at self.old.graph id ≡ Some n
+            → Updates self.old.graph self.new.graph id
+            (Some (record n { form = Some form; depth = depth })) }
+        ensures stands { stands T.table self.new.graph id
+            ≡ T.table.spelled form (map (stands T.table self.old.graph) (T.table.parts form)) }
+        ensures above { SaysByForm T.table self.new.graph }
+        ensures holders { Passes T.table.parts self.old.graph (T.table.parts form) self.new.graph [] }
+        ensures says { SaysSameBelow T.table id self.old.graph self.new.graph }
+        ensures sound { IsSound T.table self.new.graph }
+        ensures closed { IsClosedBut self.old.graph id → IsClosed self.new.graph }
+        ensures rest { self.new ≡ record self.old { graph = self.new.graph } }
+    {
+        let object = &mut self.objects[id.0];
+        object.form = Some(form);
+        object.depth = depth;
+    }
+
+    /// Adds the text of another object to that of one that one holder alone has, which is outside. Both
+    /// have their texts. The form of the first goes, and its parts are released. No counter rises. After
+    /// `NoMemory` everything is as before.
+    pub fn add_text(&mut self, id: ObjId, more: ObjId) -> Result<(), NoMemory>
+        requires text { IsSome (text_in (at self.old.graph id)) }
+        requires more { IsSome (text_in (at self.old.graph more)) }
+        requires other { more ≢ id }
+        requires alone { count_in (at self.old.graph id) ≡ 1 }
+        requires free { held T.table.parts self.old.graph id ≡ 0 }
+        ensures text { OnOk result (HasText T.table self.new.graph id
+            (stands T.table self.old.graph id ++ stands T.table self.old.graph more)) }
+        ensures added { OnOk result ((n : Object T.Form) → at self.old.graph id ≡ Some n
+            → Releases T.table.parts (slice_set self.old.graph id (Some (retexted n
+            (stands T.table self.old.graph id ++ stands T.table self.old.graph more))))
+            (form_parts T.table.parts n.form) self.new.graph) }
+        ensures says { SaysSameBut T.table id self.old.graph self.new.graph }
+        ensures holders { Passes T.table.parts self.old.graph [] self.new.graph [] }
+        ensures sound { IsSound T.table self.new.graph }
+        ensures closed { IsClosed self.old.graph → IsClosed self.new.graph }
+        ensures rest { self.new ≡ record self.old { graph = self.new.graph } }
+        ensures refused { OnErr result (self.new ≡ self.old) }
+    {
+        let form = extend_text(&mut self.objects, id, more)?;
+        release_form(&self.types, &mut self.objects, &form);
+        Ok(())
     }
 
     /// How many holders the object has: parts, and holders outside.

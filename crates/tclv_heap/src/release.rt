@@ -5,7 +5,7 @@ ghost use Rattle.tclv_heap.specs.Graph.{at, count_in, form_parts, HasOutside, Ta
 ghost use Rattle.tclv_heap.specs.Dying.{Releases, Dying, Ready, Listed, DropsHolder};
 
 use crate::ids::{ObjId, Object};
-use crate::table::{Types, part};
+use crate::table::Types;
 use slab::Slab;
 
 /// Takes one outside holder from the object, and removes each object that has no holder then.
@@ -31,6 +31,7 @@ pub(crate) fn release_form<T: Types>(
     ensures released { Releases T.table.parts objects.old.slots
         (form_parts T.table.parts form.now) objects.new.slots }
     ensures sound { IsCounted T.table.parts objects.new.slots }
+    ensures none { form_parts T.table.parts form.now ≡ [] → objects.new.slots ≡ objects.old.slots }
 {
     if let Some(form) = form {
         let first = drop_parts(types, objects, form, None);
@@ -43,6 +44,7 @@ fn sweep<T: Types>(types: &T, objects: &mut Slab<Object<T::Form>>, first: Option
     requires { Ready T.table.parts objects.old.slots [] first }
     ensures swept { Dying T.table.parts objects.old.slots [] [] objects.new.slots }
     ensures listed { Listed objects.new.slots None }
+    ensures none { first ≡ None → objects.new.slots ≡ objects.old.slots }
 {
     let mut head = first;
     while let Some(dying) = head {
@@ -66,10 +68,12 @@ fn drop_parts<T: Types>(
         (T.table.parts form.now) [] objects.new.slots }
     ensures listed { Listed objects.new.slots result }
     ensures len { slab_len objects.new ≡ slab_len objects.old }
+    ensures none { T.table.parts form.now ≡ []
+        → (objects.new.slots ≡ objects.old.slots) × (result ≡ first) }
 {
     let mut head = first;
     for k in 0..types.kid_count(form) {
-        let kid = part(types, form, k);
+        let kid = types.kid(form, k);
         head = drop_holder(objects, kid, head);
     }
     head

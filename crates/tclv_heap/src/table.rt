@@ -1,5 +1,5 @@
 // The table of types: what the heap asks of a form.
-ghost use Rattle.std.specs.Prelude.{◌≡◌, ◌↔◌, ◌<◌, ℕ, List, map, length, slice_get, slice_index, IsTrue, IfOk, OnOk, OnErr};
+ghost use Rattle.std.specs.Prelude.{◌≡◌, ◌↔◌, ◌<◌, ℕ, List, map, length, slice_index, IsTrue, IfOk, OnOk, OnErr};
 ghost use Rattle.std.specs.Str.{chars};
 ghost use Rattle.tclv_text.specs.Texts.{IsText, Appends};
 ghost use Rattle.tclv_heap.specs.Table.{Table, Alike};
@@ -34,13 +34,18 @@ pub trait Types {
     fn kid_count(&self, f: &Self::Form) -> usize
         ensures { result ≡ length (table.parts f.now) };
 
-    /// The part at a place, counted from 0, and `None` exactly past the last part.
-    fn kid(&self, f: &Self::Form, k: usize) -> Option<ObjId>
-        ensures { result ≡ slice_get (table.parts f.now) k };
+    /// The part at a place, counted from 0, below the number of parts.
+    fn kid(&self, f: &Self::Form, k: usize) -> ObjId
+        requires { k < length (table.parts f.now) }
+        ensures { result ≡ slice_index (table.parts f.now) k };
 
     /// Whether the form alone gives the text.
     fn spells(&self, f: &Self::Form) -> bool
         ensures { IsTrue result ↔ table.Spells f.now };
+
+    /// Whether to set the form on an object counts as reading the object's text.
+    fn counts(&self, f: &Self::Form) -> bool
+        ensures { result ≡ table.counts f.now };
 
     /// Appends the text that the form gives, from the texts of its parts. After `NoMemory` `out` is
     /// as before.
@@ -61,15 +66,4 @@ pub trait Types {
     /// The same form once more, with the same parts. Their holders stay with the caller.
     fn duplicate(&self, alloc: Global, f: &Self::Form) -> Result<Self::Form, NoMemory>
         ensures { IfOk result (Alike table f.now) };
-}
-
-/// The part at a place, counted from 0, below the number of parts.
-pub(crate) fn part<T: Types>(types: &T, form: &T::Form, k: usize) -> ObjId
-    requires { k < length (T.table.parts form.now) }
-    ensures { result ≡ slice_index (T.table.parts form.now) k }
-{
-    match types.kid(form, k) {
-        Some(kid) => kid,
-        None => unreachable!(),
-    }
 }

@@ -25,11 +25,18 @@ impl Types for Links {
         if f.is_some() { 1 } else { 0 }
     }
 
-    fn kid(&self, f: &Option<ObjId>, k: usize) -> Option<ObjId> {
-        if k == 0 { *f } else { None }
+    fn kid(&self, f: &Option<ObjId>, k: usize) -> ObjId {
+        match *f {
+            Some(id) => id,
+            None => unreachable!(),
+        }
     }
 
     fn spells(&self, f: &Option<ObjId>) -> bool {
+        true
+    }
+
+    fn counts(&self, f: &Option<ObjId>) -> bool {
         true
     }
 
@@ -104,7 +111,12 @@ fn strings_are_made(rt: HostRuntime) -> Result<(), NoMemory> {
     assert_eq!(rt; heap.depth(id), 0);
     heap.set_form(id, None, 1);
     assert_eq!(rt; heap.form_depth(id), 1);
-    assert_eq!(rt; heap.stats(), Stats::ZERO);
+    let stats = Stats {
+        read: 1,
+        spelled: 1,
+        copied: 0,
+    };
+    assert_eq!(rt; heap.stats(), stats);
     Ok(())
 }
 
@@ -119,5 +131,15 @@ fn copies_share_parts(rt: HostRuntime) -> Result<(), NoMemory> {
     heap.release(object);
     heap.release(copy);
     assert_eq!(rt; heap.objects.len(), 0);
+    Ok(())
+}
+
+#[test]
+fn texts_get_longer(rt: HostRuntime) -> Result<(), NoMemory> {
+    let mut heap = Heap::new(rt.alloc(), Links);
+    let more = heap.make_text_object(x_text(rt.alloc())?)?;
+    let id = heap.make_text_object(x_text(rt.alloc())?)?;
+    heap.add_text(id, more)?;
+    assert_eq!(rt; heap.text(id), Some(b"xx".as_slice()));
     Ok(())
 }

@@ -17,7 +17,7 @@ pub loop-k-preserved : goal.loop-k-preserved
 loop-k-preserved g c =
     let ps = g.T.Types.table.parts c.in-Some.form in
     let grows : take (c.loop-k.k + 1) ps ≡ take c.loop-k.k ps ++ c.kid.inside.0 ∷ [] =
-    take_more ps c.loop-k.k 0 (omega arith) ∙ ap (λ x. take c.loop-k.k ps ++ x ∷ []) (sym c.part-kid.ensures ∙ sym c.kid.view_is) in
+    take_more ps c.loop-k.k 0 (omega arith) ∙ ap (λ x. take c.loop-k.k ps ++ x ∷ []) (sym c.kid-kid.ensures ∙ sym c.kid.view_is) in
     let u = Updates_set c.loop-k.objects.slots c.kid.inside.0 c.index_mut-object.result.now _ c.index_mut-object.ensures.value in (
       Shared_more _ _ _ _ _ c.kid.inside.0 c.index_mut-object.result.now c.saturating_add-object.result grows c.loop-k.invariant.0 c.index_mut-object.ensures.value (omega arith) u,
       len_updates _ _ _ _ _ c.index_mut-object.ensures.value u ∙ c.loop-k.invariant.1,

@@ -1,4 +1,4 @@
-use Rattle.std.proofs.Common.{◌≡◌, is_some, count_by, drop}
+use Rattle.std.proofs.Common.{◌≡◌, [], is_some, count_by, drop}
 use Rattle.tclv_heap.specs.Dying.{Dying, Listed}
 use Rattle.tclv_heap.proofs.release.drop_parts.Given as goal
 
@@ -8,3 +8,4 @@ invariant-loop-k g l =
     Dying g.T.Types.table.parts l.fn.objects.slots (g.T.Types.table.parts l.form) (drop l.k (g.T.Types.table.parts l.form)) l.objects.slots
     × Listed l.objects.slots l.head
     × (count_by is_some l.objects.slots ≡ count_by is_some l.fn.objects.slots)
+    × (g.T.Types.table.parts l.form ≡ [] → (l.objects.slots ≡ l.fn.objects.slots) × (l.head ≡ l.initial.head))

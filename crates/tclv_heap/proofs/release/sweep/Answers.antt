@@ -25,9 +25,9 @@ loop-head-preserved-after-object g c =
     elim c.match-object.branch [
       | in-Some-form w ↦
           let d = subst (λ f. Dying g.T.Types.table.parts c.args.objects.now.slots [] (form_parts g.T.Types.table.parts f) c.remove-object.new.self.slots) w.in-Some-form.is p.0 in
-          rw (w.objects-is, w.head-is) (Dying_then _ _ _ _ _ _ d w.drop_parts-head.ensures.dropped, w.drop_parts-head.ensures.listed)
+          rw (w.objects-is, w.head-is) (Dying_then _ _ _ _ _ _ d w.drop_parts-head.ensures.dropped, w.drop_parts-head.ensures.listed, λ none. absurd (let e = sym (c.loop-head.invariant.2 none).1 ∙ c.in-Some.is in cc))
       | in_default-form w ↦
-          rw (w.objects-is, w.head-is) (subst (λ f. Dying g.T.Types.table.parts c.args.objects.now.slots [] (form_parts g.T.Types.table.parts f) c.remove-object.new.self.slots) w.in_default-form.is p.0, p.1)
+          rw (w.objects-is, w.head-is) (subst (λ f. Dying g.T.Types.table.parts c.args.objects.now.slots [] (form_parts g.T.Types.table.parts f) c.remove-object.new.self.slots) w.in_default-form.is p.0, p.1, λ none. absurd (let e = sym (c.loop-head.invariant.2 none).1 ∙ c.in-Some.is in cc))
     ]
 
 pub loop-head-preserved : goal.loop-head-preserved
@@ -36,7 +36,7 @@ loop-head-preserved g c =
     elim c.match-object.branch [
       | in-Some-form w ↦
           let d = subst (λ f. Dying g.T.Types.table.parts c.args.objects.now.slots [] (form_parts g.T.Types.table.parts f) c.remove-object.new.self.slots) w.in-Some-form.is p.0 in
-          rw (w.objects-is, w.head-is) (Dying_then _ _ _ _ _ _ d w.drop_parts-head.ensures.dropped, w.drop_parts-head.ensures.listed)
+          rw (w.objects-is, w.head-is) (Dying_then _ _ _ _ _ _ d w.drop_parts-head.ensures.dropped, w.drop_parts-head.ensures.listed, λ none. absurd (let e = sym (c.loop-head.invariant.2 none).1 ∙ c.in-Some.is in cc))
       | in_default-form w ↦
-          rw (w.objects-is, w.head-is) (subst (λ f. Dying g.T.Types.table.parts c.args.objects.now.slots [] (form_parts g.T.Types.table.parts f) c.remove-object.new.self.slots) w.in_default-form.is p.0, p.1)
+          rw (w.objects-is, w.head-is) (subst (λ f. Dying g.T.Types.table.parts c.args.objects.now.slots [] (form_parts g.T.Types.table.parts f) c.remove-object.new.self.slots) w.in_default-form.is p.0, p.1, λ none. absurd (let e = sym (c.loop-head.invariant.2 none).1 ∙ c.in-Some.is in cc))
     ]

@@ -1,12 +1,16 @@
-use Rattle.std.proofs.Common.{◌≡◌, ◌<◌, ℕ, [], map, set, Option, Some, None, IsSome, is_some, false, refl, sym, ap, ◌∙◌, arith}
+use Rattle.std.proofs.Common.{◌≡◌, ◌<◌, ℕ, [], map, set, Option, Some, None, IsSome, is_some, length, min, ◌+◌, false, refl, sym, ap, ◌∙◌, arith}
 use Rattle.std.specs.Prelude.{unwrap_or}
 use Rattle.std.proofs.lemmas.List.{length-set}
 use Rattle.tclv_text.specs.Texts.{IsText}
 use Rattle.tclv_heap.specs.declared.ids.Object.{Object}
-use Rattle.tclv_heap.specs.Graph.{at, text_in, form_in, form_parts, occurs, Updates, Leads}
+use Rattle.std.specs.Str.{chars}
+use Rattle.tclv_heap.specs.Graph.{at, stuck, text_in, form_in, form_parts, occurs, Updates, Leads}
 use Rattle.tclv_heap.specs.Graph.Leads.{here}
 use Rattle.tclv_heap.specs.Stands.{IsSound, SaysSame, stands}
 use Rattle.tclv_heap.specs.Noted.{Noted}
+use Rattle.tclv_heap.specs.Counters.{text_size}
+use Rattle.tclv_heap.proofs.GraphLemmas.{Updates_set}
+use Rattle.tclv_heap.proofs.CounterLemmas.{Writes_one}
 use Rattle.tclv_heap.proofs.HeapLemmas.{Makes}
 use Rattle.tclv_heap.proofs.RetextLemmas.{Noted_one, retexted_there}
 use Rattle.tclv_heap.proofs.TextLemmas.{occurs_at, appended_text}
@@ -75,3 +79,14 @@ returns-clause-says g c o there =
 
 pub returns-clause-noted : goal.returns-clause-noted
 returns-clause-noted g c = rw c.id-2.view_is (noted g (goal.at.returns-clause-noted g c).After-new)
+
+pub returns-clause-written : goal.returns-clause-written
+returns-clause-written g c =
+    let a = (goal.at.returns-clause-written g c).After-new-text in
+    let n = c.index_mut-object.result.now in
+    let same : c.index-object.result.now ≡ n = (let e : Some c.index-object.result.now ≡ Some n = sym (object_is g a) ∙ written_is g (goal.at.returns-clause-written g c).After-new in cc) in
+    let bare : text_size (at c.args.objects.now.slots c.args.id) ≡ 0 = ap text_size (object_is g a) ∙ ap (λ x. length (unwrap_or x [])) (none g a) in
+    let u = Updates_set c.args.objects.now.slots c.args.id n (Some (record n { text = Some c.new.result })) (written_is g (goal.at.returns-clause-written g c).After-new) in
+    let size : c.point_count.result ≡ length c.new.result = c.point_count.ensures ∙ ap (λ x. length (chars x)) c.as_slice.ensures.value ∙ ap length (sym c.new.ensures) in
+    let count : c.saturating_add.result ≡ min (c.args.written.now + length c.new.result) stuck = omega (arith, size) in
+    rw c.id-2.view_is (Writes_one _ _ c.args.id _ c.args.written.now _ (length c.new.result) bare u refl count)

@@ -10,19 +10,19 @@ use Rattle.tclv_heap.proofs.objects.Heap.duplicate.Goals.{In_ok-reserve, After-i
 same_slots : (g : Over) (c : In_ok-reserve g) → c.reserve.new.self.slots ≡ c.self.inside.objects.slots
 same_slots g c = let e = c.reserve.ensures.rest_kept in cc
 
-pub share_parts-requires-clause-there : goal.share_parts-requires-clause-there
-share_parts-requires-clause-there g c =
-    rw (same_slots g (goal.at.share_parts-requires-clause-there g c).In_ok-reserve) (copied_there g.T.Types.table _ _ c.index-object.result.now _ _ c.self.invariant c.index-object.ensures c.in_ok-text.ensures)
+pub share_parts-parts-requires-clause-there : goal.share_parts-parts-requires-clause-there
+share_parts-parts-requires-clause-there g c =
+    rw (same_slots g (goal.at.share_parts-parts-requires-clause-there g c).In_ok-reserve) (copied_there g.T.Types.table _ _ c.index-object.result.now _ _ c.self.invariant c.index-object.ensures c.in_ok-text.ensures)
 
-pub share_parts-requires-clause-low : goal.share_parts-requires-clause-low
-share_parts-requires-clause-low g c =
-    rw (same_slots g (goal.at.share_parts-requires-clause-low g c).In_ok-reserve) (λ o n is. (c.self.invariant.sound.counts o n is).1)
+pub share_parts-parts-requires-clause-low : goal.share_parts-parts-requires-clause-low
+share_parts-parts-requires-clause-low g c =
+    rw (same_slots g (goal.at.share_parts-parts-requires-clause-low g c).In_ok-reserve) (λ o n is. (c.self.invariant.sound.counts o n is).1)
 
 duplicated : (g : Over) (c : After-insert_reserved-key g) → Duplicated g.T.Types.table c.self.inside.objects.slots c.id.inside.0 c.insert_reserved-key.result (new_object c.in_ok-text.text c.in_ok-text.form c.index-object.result.now.depth) c.insert_reserved-key.new.self.slots
 duplicated g c =
     let u = c.insert_reserved-key.ensures.updates in
     let e = same_slots g (goal.at.After-insert_reserved-key g c).In_ok-reserve in
-    let shared = subst (λ x. Shared x (form_parts g.T.Types.table.parts c.in_ok-text.form) c.share_parts.new.objects.slots) e c.share_parts.ensures.shared in
+    let shared = subst (λ x. Shared x (form_parts g.T.Types.table.parts c.in_ok-text.form) c.share_parts-parts.new.objects.slots) e c.share_parts-parts.ensures.shared in
     Valid_duplicate g.T.Types.table _ _ _ _ _ c.index-object.result.now _ c.self.invariant c.index-object.ensures (rw (← c.self.view_is, ← c.id.view_is) at c.requires.told) c.in_ok-text.ensures shared
     c.insert_reserved-key.ensures.was_vacant (record { changed = u.changed ∙ ap Some c.new.ensures; others = u.others }) refl refl refl
 

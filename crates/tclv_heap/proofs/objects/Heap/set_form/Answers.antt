@@ -1,9 +1,9 @@
-use Rattle.std.proofs.Common.{◌≡◌, ℕ, set, Some, IsSome, is_some, refl, ap}
+use Rattle.std.proofs.Common.{◌≡◌, ℕ, set, Some, IsSome, is_some, refl, sym, ap, ◌∙◌}
 use Rattle.tclv_heap.specs.declared.ids.Object.{Object}
 use Rattle.tclv_heap.specs.Graph.{at, form_parts, Takes}
 use Rattle.tclv_heap.specs.Stands.{IsSound, IsClosed, Keeps, stands}
 use Rattle.tclv_heap.proofs.GraphLemmas.{Updates_set}
-use Rattle.tclv_heap.proofs.HeapLemmas.{Set_form, Set_form_done}
+use Rattle.tclv_heap.proofs.HeapLemmas.{Set_form, Set_form_done, Reformed_stays}
 use Rattle.tclv_heap.proofs.HoldersLemmas.{Holders_change, Holders_release, Closed_updates, Closed_release}
 use Rattle.tclv_heap.proofs.objects.Heap.set_form.Given.{Over}
 use Rattle.tclv_heap.proofs.objects.Heap.set_form.Goals as goal
@@ -53,3 +53,19 @@ returns-clause-holders g c ids holders =
     let before = rw (← c.self.view_is) at holders in
     let changed = Holders_change parts _ _ c.id.inside.0 n _ ids (rw c.replace-old.ensures.after before) c.index_mut-object.ensures.value (Updates_set _ _ n _ c.index_mut-object.ensures.value) refl w.1 in
     Holders_release parts _ _ _ ids (rw c.replace-old.ensures.value changed) c.release_form.ensures.released
+
+pub returns-clause-stays : goal.returns-clause-stays
+returns-clause-stays g c outside =
+    let parts = g.T.Types.table.parts in
+    let n = c.index_mut-object.result.now in
+    let u = Updates_set _ _ n (Some (record n { form = c.replace-old.new.dest; depth = c.args.depth })) c.index_mut-object.ensures.value in
+    rw (← c.id.view_is) (Reformed_stays parts _ _ _ c.id.inside.0 n _ c.args.form c.index_mut-object.ensures.value u refl c.replace-old.ensures.after (rw (← c.self.view_is, ← c.id.view_is) at c.requires.apart) (rw (← c.self.view_is, ← c.id.view_is) at outside) (rw (← c.replace-old.ensures.value) c.release_form.ensures.released))
+
+pub returns-clause-rest_stays : goal.returns-clause-rest_stays
+returns-clause-rest_stays g c n is none =
+    let parts = g.T.Types.table.parts in
+    let slots = c.self.inside.objects.slots in
+    let is_in : at slots c.id.inside.0 ≡ Some n = rw (← c.self.view_is, ← c.id.view_is) at is in
+    let same : c.index_mut-object.result.now ≡ n = (let e : Some c.index_mut-object.result.now ≡ Some n = sym c.index_mut-object.ensures.value ∙ is_in in cc) in
+    let old_none = ap (form_parts parts) c.replace-old.ensures.value ∙ ap (λ (x : Object g.row.T-Form.Denot). form_parts parts x.form) same ∙ none in
+    rw (← c.self.view_is, ← c.id.view_is) (c.release_form.ensures.none old_none ∙ ap (λ f. set slots c.id.inside.0 (Some (record c.index_mut-object.result.now { form = f; depth = c.args.depth }))) c.replace-old.ensures.after ∙ ap (λ (x : Object g.row.T-Form.Denot). set slots c.id.inside.0 (Some (record x { form = Some c.args.form; depth = c.args.depth }))) same)
