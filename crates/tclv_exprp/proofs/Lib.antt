@@ -11,3 +11,4 @@ pub mod ShrinkLemmas
 pub mod StartLemmas
 pub mod WholeLemmas
 pub mod LevelLemmas
+pub mod MissLemmas

@@ -7,3 +7,4 @@ pub mod Operands
 pub mod Outcomes
 pub mod ExpressionGrammar
 pub mod Levels
+pub mod OperandFaults

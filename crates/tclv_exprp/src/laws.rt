@@ -2,6 +2,7 @@
 ghost use Rattle.tclv_exprp.specs.ExpressionGrammar.{ArgumentsAreLists, RowsAreChains};
 ghost use Rattle.tclv_exprp.specs.Levels.{BoundsGrow, TreesHaveLevels};
 ghost use Rattle.tclv_exprp.specs.Numerals.{NumbersAreLongest};
+ghost use Rattle.tclv_exprp.specs.OperandFaults.{FaultsOfOperands};
 ghost use Rattle.tclv_exprp.specs.Operators.{RoundsDown};
 
 use tclv_parse::laws::scripts_have_levels;
@@ -27,6 +28,17 @@ pub fn arguments_are_lists()
 /// has the form of a floating point number with digits, as the readers of numbers define both.
 pub fn numbers_are_longest()
     ensures { NumbersAreLongest }
+{}
+
+/// Where an operand must begin and none does, the fault is `Syntax`, at the first character that no
+/// expression can have there: none begins with the characters up to it and with it, whatever comes
+/// behind. Those before it could still begin white space or an operand: a backslash, a dollar sign, or
+/// a dollar sign and a colon.
+///
+/// This speaks of places where an operand must begin alone. A parse fault inside of a leaf is `Syntax`
+/// at the leaf's first byte, with which expressions do begin.
+pub fn syntax_is_where_no_operand_goes_on()
+    ensures { FaultsOfOperands }
 {}
 
 /// The tree of an expression has at most 1616 levels, and the parts in it have at most 100 levels of

@@ -10,3 +10,4 @@ pub mod Variables
 pub mod ReadLaws
 pub mod Alike
 pub mod LevelLemmas
+pub mod Braces
