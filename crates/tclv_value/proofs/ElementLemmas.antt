@@ -1,9 +1,8 @@
 -- Lists read from texts, and their texts written element by element.
-use Rattle.std.proofs.Common.{◌≡◌, ◌≢◌, ℕ, ◌+◌, ◌<◌, ◌≤◌, Bool, true, false, cond, not, List, [], ◌∷◌, ◌++◌, length, map, get_or, take, Some, None, Result, Ok, refl, sym, ap, subst, ◌∙◌, arith}
-use Rattle.std.specs.Prelude.{IsOkAnd, slice_get, ◌&&◌, ◌||◌}
+use Rattle.std.proofs.Common.{◌≡◌, ◌≢◌, ℕ, ◌+◌, ◌<◌, Bool, true, false, cond, not, List, [], ◌∷◌, ◌++◌, length, get_or, take, Some, None, Result, Ok, refl, sym, ap, subst, ◌∙◌, arith}
+use Rattle.std.specs.Prelude.{IsOkAnd, ◌&&◌, ◌||◌}
 use Rattle.std.specs.Str.{chars}
-use Rattle.std.proofs.lemmas.List.{append-nil, append_assoc, length-map, length-append, get_or_default, take_more, get_or-map}
-use Rattle.std.proofs.lemmas.Option.{slice_get_past, slice_get-get_or}
+use Rattle.std.proofs.lemmas.List.{append-nil, append_assoc, length-append, get_or_default, take_more}
 use Rattle.std.proofs.lemmas.Str.{encodes-chars, chars-append, chars-nil, IsUtf8-append, encode_ascii}
 use Rattle.tclv_text.specs.Texts.{IsText, AppendsText}
 use Rattle.tclv_text.specs.Lists.{ListFlaw}
@@ -121,13 +120,6 @@ written_more old mid new es i x bytes within here says so_far more ts is =
 -- nothing is the text of the empty list
 pub nothing_written : (bs : List ℕ) → bs ≡ [] → IsListText [] bs
 nothing_written bs none = subst (IsListText []) (sym none) (record { utf8 = record { utf8 = ([], (refl, refl)) }; text = chars-nil })
-
--- an element at a place, and none past the end
-pub past_element : {X : Type 0} (f : X → List ℕ) (xs : List X) (k : ℕ) → length xs ≤ k → None ≡ slice_get (map f xs) k
-past_element f xs k past = sym (slice_get_past (map f xs) k (omega (arith, length-map xs f)))
-
-pub found_element : {X : Type 0} (f : X → List ℕ) (xs : List X) (k : ℕ) (d : X) (x : List ℕ) → k < length xs → x ≡ f (get_or xs k d) → Some x ≡ slice_get (map f xs) k
-found_element f xs k d x within is = ap Some (is ∙ sym (get_or-map f xs k d [] within)) ∙ sym (slice_get-get_or (map f xs) k [] (omega (arith, length-map xs f)))
 
 -- escapes that were read into nothing
 pub unescaped : (bs new : List ℕ) (t : List ℕ) → bs ≡ [] → AppendsText bs new t → chars new ≡ t

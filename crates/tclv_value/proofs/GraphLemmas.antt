@@ -5,7 +5,7 @@ use Rattle.indexmap.specs.IndexMap.{insert_entry, swap_remove_entry}
 use Rattle.std.proofs.lemmas.List.Sums.{sum_by-set}
 use Rattle.std.proofs.lemmas.Bool.{cases_eq}
 use Rattle.tclv_heap.specs.declared.ids.Object.{Object}
-use Rattle.tclv_heap.specs.Graph.{at, occurs, same, stuck, text_in, Updates, Adds, HasOutside}
+use Rattle.tclv_heap.specs.Graph.{at, occurs, same, stuck, count_in, text_in, Updates, Adds, HasOutside}
 use Rattle.tclv_heap.specs.Dying.{Releases}
 use Rattle.tclv_heap.specs.Holders.{Passes}
 use Rattle.tclv_heap.specs.Stands.{Keeps, Retexted}
@@ -108,6 +108,10 @@ retexted_made Among old new r o there made =
 pub retexted_there : (Among : ℕ → Type 0) (old new : G) → Retexted form_table Among old new → (o : ℕ) → IsSome (at old o) → IsSome (at new o)
 retexted_there Among old new r o there =
     by_slot _ (at old o) (λ e. absurd (no_object old o e there)) (λ n e. elim (r.kept o n e) [ inl same_n ↦ ap is_some same_n | inr told ↦ ap is_some told.2 ])
+
+pub retexted_count : (Among : ℕ → Type 0) (old new : G) → Retexted form_table Among old new → (o : ℕ) → IsSome (at old o) → count_in (at new o) ≡ count_in (at old o)
+retexted_count Among old new r o there =
+    by_slot _ (at old o) (λ e. absurd (no_object old o e there)) (λ n e. elim (r.kept o n e) [ inl same_n ↦ ap count_in (same_n ∙ sym e) | inr told ↦ ap count_in told.2 ∙ sym (ap count_in e) ])
 
 -- a place of the stack gets an object, and its old object is released
 pub over_splits : (ids : List ℕ) (es : List (ℕ × ℕ)) (i o old x : ℕ) → i < length ids → get_or ids i 0 ≡ old → occurs x (places (ids ++ o ∷ []) es) ≡ occurs x (old ∷ places (set ids i o) es)

@@ -1,5 +1,5 @@
 -- Lists inside lists: a path of indices, the first of which leads to an element of the outer list, the next to an element of that, and so on.
-use Rattle.std.specs.Prelude.{◌≡◌, ℕ, ◌+◌, nat_le, if◌then◌else◌, List, [], ◌∷◌, ◌++◌, length, take, drop, slice_index_or, Result, Ok, Err, ℤ, pos, negsuc}
+use Rattle.std.specs.Prelude.{◌≡◌, ℕ, ◌+◌, ◌<◌, nat_le, if◌then◌else◌, List, [], ◌∷◌, ◌++◌, length, take, drop, slice_index_or, Result, Ok, Err, IsOkAnd, ℤ, pos, negsuc}
 use Rattle.tclv_text.specs.declared.indices.IndexFault.{IndexFault}
 use Rattle.tclv_text.specs.Lists.{ListFlaw}
 use Rattle.tclv_text.specs.Elements.{elements}
@@ -36,7 +36,7 @@ abbrev pub step : ℕ → List ℕ → List ℕ → Result (List (List ℕ) × �
 step level t i = and_then (list_or t (elements t)) (λ ts. and_then (place_or level (length ts) (index i (length ts))) (λ k. Ok (ts, k)))
 
 -- the list with x at place k, in place of the element there, or behind the last where k is the length
-abbrev pub put_at : List (List ℕ) → ℕ → List ℕ → List (List ℕ)
+abbrev pub put_at : {A : Type 0} → List A → ℕ → A → List A
 put_at ts k x = take k ts ++ x ∷ drop (k + 1) ts
 
 -- The text where the value x stands at the end of the path, of which so many indices led here. Without an index it is the value. Else it is the canonical text of
@@ -57,3 +57,11 @@ RefusesPath _ answer = ⊥
 abbrev pub rebuilt : List Step → List ℕ → List ℕ
 rebuilt [] x = x
 rebuilt (s ∷ steps) x = list_text (put_at s.elements.items s.place (rebuilt steps x))
+
+-- A call that wants a list of a text on a path is refused with this fault, whatever the index.
+abbrev pub RefusesStep : ValueFault → List ℕ → Type 0
+RefusesStep why t = (level : ℕ) (i : List ℕ) → RefusesPath why (step level t i)
+
+-- the index names an element of the text's list
+abbrev pub NamesElement : List ℕ → List ℕ → Type 0
+NamesElement t i = IsOkAnd (step 0 t i) (λ (ts, k). k < length ts)

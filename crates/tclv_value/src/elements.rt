@@ -1,5 +1,5 @@
 // The elements of lists, read from a text and written to one.
-ghost use Rattle.std.specs.Prelude.{◌≡◌, ℕ, List, ◌∷◌, [], ◌++◌, Ok, IsOkAnd, OnOk, IfOk, IfErr, slice_get, length, map};
+ghost use Rattle.std.specs.Prelude.{◌≡◌, ℕ, List, ◌∷◌, [], ◌++◌, Ok, OnOk, IfOk, IfErr, map};
 ghost use Rattle.std.specs.List.{All};
 ghost use Rattle.std.specs.Str.{chars};
 ghost use Rattle.tclv_text.specs.Texts.{IsText};
@@ -13,7 +13,7 @@ use std::alloc::Global;
 use tclv_text::{NoMemory, Span, Text, quote, split_list, unescape};
 
 // The element at a span of a text.
-fn element(alloc: Global, text: &[u8], span: Span) -> Result<Text, NoMemory>
+pub(crate) fn element(alloc: Global, text: &[u8], span: Span) -> Result<Text, NoMemory>
     requires { IsTextSpan text.now span }
     ensures { IfOk result (λ t. t ≡ span_text text.now span) }
 {
@@ -25,33 +25,6 @@ fn element(alloc: Global, text: &[u8], span: Span) -> Result<Text, NoMemory>
     let mut bytes = Vec::new(alloc);
     unescape(spelling, &mut bytes)?;
     Ok(Text::new(bytes))
-}
-
-// How many elements a text has.
-pub(crate) fn element_count(alloc: Global, text: &[u8]) -> Result<u64, ValueFault>
-    requires { IsText text.now }
-    ensures count { IfOk result (λ n. IsOkAnd (elements (chars text.now)) (λ ts. n ≡ length ts)) }
-    ensures refused { IfErr result (λ fault. RefusesList fault (chars text.now)) }
-{
-    let spans = split_list(alloc, text)?;
-    Ok(spans.all().len() as u64)
-}
-
-// The element of a text at a place, if there is one.
-pub(crate) fn element_at(alloc: Global, text: &[u8], k: u64) -> Result<Option<Text>, ValueFault>
-    requires { IsText text.now }
-    ensures element { IfOk result (λ x.
-        IsOkAnd (elements (chars text.now)) (λ ts. x ≡ slice_get ts k)) }
-    ensures refused { IfErr result (λ fault. RefusesList fault (chars text.now)) }
-{
-    let spans = split_list(alloc, text)?;
-    let all = spans.all();
-    let k = k as usize;
-    if k >= all.len() {
-        return Ok(None);
-    }
-    let found = element(alloc, text, all[k])?;
-    Ok(Some(found))
 }
 
 // The elements of a text.

@@ -13,21 +13,27 @@
 //! - After a refusal each place has the text that it had, and a made text stays made.
 #![tactic(auto)]
 
+mod appending;
 mod changes;
 mod elements;
 mod faults;
 mod forms;
+mod kept_lists;
 pub mod laws;
 mod list_paths;
 mod lists;
 mod numbers;
 mod places;
+mod procedures;
 mod readings;
+mod replacing;
 mod sequences;
+mod setting;
 mod store;
 
 pub use faults::ValueFault;
 pub use places::At;
+pub use procedures::{Param, ProcDef};
 pub use store::Store;
 
 #[cfg(test)]

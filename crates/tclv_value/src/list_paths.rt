@@ -1,11 +1,12 @@
 // Elements of lists in lists, along a path of indices.
-ghost use Rattle.std.specs.Prelude.{◌≡◌, ℕ, ◌+◌, ◌-◌, ◌<◌, List, [], ◌∷◌, ◌++◌, length, take, drop, slice_index_or, Ok, IsOkAnd, OnOk, OnErr, IfOk, IfErr};
+ghost use Rattle.std.specs.Prelude.{◌≡◌, ◌≢◌, ℕ, ◌+◌, ◌-◌, ◌<◌, ◌≤◌, List, [], ◌∷◌, ◌++◌, length, take, drop, slice_index_or, Ok, IsOkAnd, OnOk, OnErr, IfOk, IfErr};
 ghost use Rattle.std.specs.Str.{chars};
 ghost use Rattle.tclv_text.specs.Texts.{IsText};
 ghost use Rattle.tclv_text.specs.Indices.{index};
 ghost use Rattle.tclv_text.specs.Quotes.{list_text};
 ghost use Rattle.tclv_value.specs.View.{text_at};
 ghost use Rattle.tclv_value.specs.declared.places.At.TheVariants.{Stack};
+ghost use Rattle.tclv_value.specs.declared.faults.ValueFault.TheVariants as fault;
 ghost use Rattle.tclv_value.specs.Stacks.{top};
 ghost use Rattle.tclv_value.specs.Changes.{IsUnder, KeepsTexts, Puts};
 ghost use Rattle.tclv_value.specs.Paths.{place_or, step, put_at, set_path, rebuilt, RefusesPath};
@@ -71,12 +72,14 @@ fn behind(elements: &[Text], place: usize) -> &[Text]
     }
 }
 
-// The place that an index lets a list of so many elements be written at.
-fn place_of(text: &[u8], len: usize, level: usize) -> Result<usize, ValueFault>
+/// The place that an index lets a list of so many elements be written at.
+pub(crate) fn place_of(text: &[u8], len: usize, level: usize) -> Result<usize, ValueFault>
     requires { IsText text.now }
     ensures place { IfOk result (λ k. place_or level len (index (chars text.now) len) ≡ Ok k) }
     ensures refused { IfErr result (λ fault.
         RefusesPath fault (place_or level len (index (chars text.now) len))) }
+    ensures memory { IfErr result (λ why. why ≢ fault.NoMemory) }
+    ensures within { IfOk result (λ k. k ≤ len) }
 {
     match index_of(text, len as u64) {
         Ok(place) => {
@@ -137,18 +140,8 @@ fn text_along(alloc: Global, mut steps: Vec<Step>, value: Text) -> Result<Text, 
 }
 
 impl Store {
-    /// Takes the top text, which is the value, and the `path` texts below it, which are indices as
-    /// `tclv_text::index_of` reads them, the lowest of them used first. Puts the value at the end of
-    /// that path into the list that the text of `at` is: each index but the last leads to an element,
-    /// which is read as a list in turn. An index that is the length of its list stands for a new
-    /// element behind the last one, which is empty at first. The place gets the canonical text, and
-    /// so does each list on the path.
-    ///
-    /// Refuses, at the first list from the outer one on where there is a cause: with `NotList` exactly
-    /// where the text there is no list, then with `BadIndex` exactly where the index has no form of
-    /// one, then with `OutOfRange` exactly where it is below 0 or above the length. After a refusal
-    /// every place has the text that it had. (Tcl: lset(n).)
-    pub fn list_set(&mut self, at: At, path: usize) -> Result<(), ValueFault>
+    // `list_set` by texts: each list on the path is read from its text and written anew.
+    pub(crate) fn set_by_texts(&mut self, at: At, path: usize) -> Result<(), ValueFault>
         requires path { 0 < path }
         requires place { IsUnder self.old (path + 1) at }
         ensures set { OnOk result (IsOkAnd

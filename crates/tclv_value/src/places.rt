@@ -1,6 +1,7 @@
 // Where texts are: places of the stack, and cells.
-ghost use Rattle.std.specs.Prelude.{◌≡◌};
-ghost use Rattle.tclv_value.specs.Places.{HasId, id_at};
+ghost use Rattle.std.specs.Prelude.{◌≡◌, ◌≤◌, length};
+ghost use Rattle.tclv_value.specs.Stacks.{top};
+ghost use Rattle.tclv_value.specs.Places.{HasId, id_at, PutsId};
 
 use indexmap::IndexMap;
 use tclv_heap::ObjId;
@@ -23,4 +24,35 @@ pub(crate) fn object_at(stack: &[ObjId], cells: &IndexMap<u64, ObjId>, at: At) -
         At::Stack(i) => stack[i],
         At::Cell(cell) => *cells.get(&cell).unwrap(),
     }
+}
+
+// Puts an object behind a place, and gives the one that was there.
+pub(crate) fn put_object(
+    stack: &mut Vec<ObjId>,
+    cells: &mut IndexMap<u64, ObjId>,
+    at: At,
+    id: ObjId,
+) -> ObjId
+    requires { HasId stack.old.items cells.old.entries at }
+    ensures { PutsId stack.old.items cells.old.entries at id stack.new.items cells.new.entries result }
+{
+    match at {
+        At::Stack(i) => {
+            let old = stack[i];
+            stack[i] = id;
+            old
+        }
+        At::Cell(cell) => match cells.insert(cell, id) {
+            Ok(Some(old)) => old,
+            _ => unreachable!(),
+        },
+    }
+}
+
+// The objects of the top `n` texts of a stack, the lowest of them first.
+pub(crate) fn top_objects(stack: &[ObjId], n: usize) -> &[ObjId]
+    requires { n ≤ length stack.now }
+    ensures { result.now ≡ top n stack.now }
+{
+    &stack[stack.len() - n..]
 }

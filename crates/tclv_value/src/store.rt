@@ -5,6 +5,11 @@ ghost use Rattle.std.specs.FinMap as finite;
 ghost use Rattle.tclv_text.specs.Texts.{IsText};
 ghost use Rattle.tclv_text.specs.Numbers.{whole, whole_text};
 
+mod leftovers;
+mod lists;
+mod paths;
+mod replacing;
+
 use crate::faults::ValueFault;
 use crate::forms::{Form, Forms};
 use crate::numbers::whole_of;
@@ -36,7 +41,7 @@ impl Model for Store {
 
     ghost use Rattle.tclv_value.specs.Places.{view_of, IsPlaced};
 
-    ghost view = { λ s. view_of s.heap.graph s.stack.items s.cells.entries };
+    ghost view = { λ s. view_of s.heap.graph s.heap.stats s.stack.items s.cells.entries };
 
     ghost invariant = { λ s. IsPlaced s.heap.graph s.stack.items s.cells.entries };
 }
@@ -45,6 +50,7 @@ impl Store {
     ghost use Rattle.tclv_value.specs.declared.places.At.TheVariants.{Stack, Cell};
     ghost use Rattle.tclv_value.specs.View.{HasPlace, text_at, made_at, IsMade, KeepsMade, KeepsMadeBut, StaysMade};
     ghost use Rattle.tclv_value.specs.Answers.{RefusesWhole};
+    ghost use Rattle.tclv_value.specs.ListObjects.{KeepsCells};
 
     /// A store with an empty stack and no cell.
     pub fn new(alloc: Global) -> Store
@@ -117,6 +123,7 @@ impl Store {
         ensures made { made_at self.new (Stack to) ≡ made_at self.old from }
         ensures cells { self.new.cells ≡ self.old.cells }
         ensures keeps { KeepsMadeBut self.old (Stack to) self.new }
+        ensures objects { KeepsCells self.old self.new }
     {
         let copied = object_at(self.stack.as_slice(), &self.cells, from);
         let old = self.stack[to];
@@ -143,6 +150,7 @@ impl Store {
         ensures popped { self.new.stack ≡ take (length self.old.stack - n) self.old.stack }
         ensures cells { self.new.cells ≡ self.old.cells }
         ensures keeps { KeepsMade self.old self.new }
+        ensures objects { KeepsCells self.old self.new }
     {
         for _gone in 0..n {
             self.pop_one();
@@ -155,6 +163,7 @@ impl Store {
         ensures popped { self.new.stack ≡ take (length self.old.stack - 1) self.old.stack }
         ensures cells { self.new.cells ≡ self.old.cells }
         ensures keeps { KeepsMade self.old self.new }
+        ensures objects { KeepsCells self.old self.new }
     {
         if let Some(id) = self.stack.pop() {
             self.heap.release(id);
@@ -250,7 +259,9 @@ impl Store {
     }
 
     /// How much work the store did.
-    pub fn stats(&self) -> Stats {
+    pub fn stats(&self) -> Stats
+        ensures { result ≡ self.now.stats }
+    {
         self.heap.stats()
     }
 }

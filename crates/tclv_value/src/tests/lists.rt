@@ -6,7 +6,7 @@ ghost use Rattle.tclv_value.specs.View.{HasPlace};
 ghost use Rattle.tclv_value.specs.declared.places.At.TheVariants.{Cell};
 
 use crate::{At, Store, ValueFault};
-use tclv_text::{ListFault, NoMemory};
+use tclv_text::{ListFault, NoMemory, Stats};
 
 // Adds an element to one variable's list. Another variable keeps its text, though the two may share
 // an object: this follows from the store's contracts.
@@ -90,6 +90,43 @@ fn lists_grow(rt: HostRuntime) -> Result<(), NoMemory> {
 }
 
 #[test]
+fn a_shared_list_is_copied(rt: HostRuntime) -> Result<(), NoMemory> {
+    let mut store = Store::new(rt.alloc());
+    push_all(&mut store, "1 {2 3}")?;
+    assert_eq!(rt; store.height(), 1);
+    store.push_copy(At::Stack(0))?;
+    store.push_text("4".as_bytes())?;
+    assert_eq!(rt; store.list_append(At::Stack(0)), Ok(()));
+    assert_eq!(rt; store.stats().copied, 2);
+    assert!(rt; shows(&mut store, 0, "1 {2 3} 4")?);
+    assert!(rt; shows(&mut store, 1, "1 {2 3}")?);
+    Ok(())
+}
+
+// Pushes the empty list, and adds so many elements.
+fn grow(store: &mut Store, more: u32) -> Result<(), ValueFault> {
+    store.push_list(0)?;
+    for _ in 0..more {
+        store.push_text("x".as_bytes())?;
+        if store.height() < 2 {
+            return Err(ValueFault::NoMemory);
+        }
+        store.list_append(At::Stack(0))?;
+    }
+    Ok(())
+}
+
+#[test]
+fn a_list_grows_in_place(rt: HostRuntime) -> Result<(), NoMemory> {
+    let mut store = Store::new(rt.alloc());
+    assert_eq!(rt; grow(&mut store, 50_000), Ok(()));
+    assert_eq!(rt; store.stats(), Stats::ZERO);
+    assert_eq!(rt; store.height(), 1);
+    assert_eq!(rt; store.list_len(At::Stack(0)), Ok(50_000));
+    Ok(())
+}
+
+#[test]
 fn elements_give_way(rt: HostRuntime) -> Result<(), NoMemory> {
     let mut store = Store::new(rt.alloc());
     push_all(&mut store, "a b c|#|x y")?;
@@ -138,6 +175,45 @@ fn elements_are_set_along_paths(rt: HostRuntime) {
     for row in rows.split(';') {
         assert_eq!(rt; sets(&mut store, row), Ok(true), "at {row}");
     }
+}
+
+// Sets the middle element of the list at the bottom of the stack, so many times.
+fn set_often(store: &mut Store, times: u32) -> Result<(), ValueFault> {
+    for _ in 0..times {
+        push_all(store, "1|x y")?;
+        if store.height() < 3 {
+            return Err(ValueFault::NoMemory);
+        }
+        store.list_set(At::Stack(0), 1)?;
+    }
+    Ok(())
+}
+
+#[test]
+fn an_element_is_set_in_place(rt: HostRuntime) -> Result<(), NoMemory> {
+    let mut store = Store::new(rt.alloc());
+    push_all(&mut store, "a|b|c")?;
+    assert_eq!(rt; store.height(), 3);
+    store.push_list(3)?;
+    assert_eq!(rt; set_often(&mut store, 1_000), Ok(()));
+    assert_eq!(rt; store.stats(), Stats::ZERO);
+    assert!(rt; shows(&mut store, 0, "a {x y} c")?);
+    Ok(())
+}
+
+#[test]
+fn an_element_of_a_shared_list_is_set_in_a_copy(rt: HostRuntime) -> Result<(), NoMemory> {
+    let mut store = Store::new(rt.alloc());
+    push_all(&mut store, "1 {2 3}")?;
+    assert_eq!(rt; store.height(), 1);
+    store.push_copy(At::Stack(0))?;
+    push_all(&mut store, "end|4")?;
+    assert_eq!(rt; store.height(), 4);
+    assert_eq!(rt; store.list_set(At::Stack(0), 1), Ok(()));
+    assert_eq!(rt; store.stats().copied, 2);
+    assert!(rt; shows(&mut store, 0, "1 4")?);
+    assert!(rt; shows(&mut store, 1, "1 {2 3}")?);
+    Ok(())
 }
 
 #[test]

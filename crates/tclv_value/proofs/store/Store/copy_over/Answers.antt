@@ -2,6 +2,8 @@ use Rattle.std.proofs.Common.{◌≡◌, ◌<◌, ◌++◌, ◌∷◌, [], set, 
 use Rattle.std.proofs.lemmas.List.{get_or_read}
 use Rattle.tclv_heap.specs.Graph.{occurs}
 use Rattle.tclv_value.specs.Places.{id_at, IsPlaced, places}
+use Rattle.tclv_value.specs.ListObjects.{KeepsCells}
+use Rattle.tclv_value.specs.View.{View}
 use Rattle.tclv_value.proofs.ViewLemmas.{Shift, named_id, named_listed, named_text, named_made, same_view, over_stack, over_cells, over_made, over_keeps}
 use Rattle.tclv_value.proofs.GraphLemmas.{still_shared, still_then_released, placed_push, placed_released, released_outside, over_splits}
 use Rattle.tclv_value.proofs.store.Store.copy_over.Goals as goal
@@ -69,3 +71,7 @@ pub returns-clause-keeps : goal.returns-clause-keeps
 returns-clause-keeps c =
     let b = (goal.at.returns-clause-keeps c).After-object_at-copied in
     over_keeps _ _ _ _ _ _ (shift (goal.at.returns-clause-keeps c).After-release) (within b) (listed b) _ c.self.view_is
+
+pub returns-clause-objects : goal.returns-clause-objects
+unfolding KeepsCells
+returns-clause-objects c = (ap (λ (v : View). v.cell_ids) c.self.view_is, ap (λ h. h.stats) c.release.ensures.rest ∙ ap (λ h. h.stats) c.share.ensures.rest ∙ ap (λ (v : View). v.stats) c.self.view_is)

@@ -20,8 +20,8 @@ ends c =
 before : (c : After-pop) → IsPlaced c.self.inside.heap.graph (c.pop.new.self.items ++ c.index-top.result.now ∷ []) c.self.inside.cells.entries
 before c = subst (λ xs. IsPlaced c.self.inside.heap.graph xs c.self.inside.cells.entries) (ends c) c.self.invariant
 
-view : (c : After-pop) → view_of c.self.inside.heap.graph (c.pop.new.self.items ++ c.index-top.result.now ∷ []) c.self.inside.cells.entries ≡ c.args.self.now
-view c = ap (λ xs. view_of c.self.inside.heap.graph xs c.self.inside.cells.entries) (sym (ends c)) ∙ c.self.view_is
+view : (c : After-pop) → view_of c.self.inside.heap.graph c.self.inside.heap.stats (c.pop.new.self.items ++ c.index-top.result.now ∷ []) c.self.inside.cells.entries ≡ c.args.self.now
+view c = ap (λ xs. view_of c.self.inside.heap.graph c.self.inside.heap.stats xs c.self.inside.cells.entries) (sym (ends c)) ∙ c.self.view_is
 
 entries : (c : After-pop) → c.insert.new.self.entries ≡ insert_entry nat_eq c.self.inside.cells.entries c.args.cell c.index-top.result.now
 entries c = c.in_ok-old.ensures.entries
