@@ -17,11 +17,10 @@ use Rattle.tclv_vars.specs.declared.faults.VarFault.{VarFault}
 use Rattle.tclv_vars.specs.declared.faults.VarFault.TheVariants as fault
 use Rattle.tclv_vars.specs.Scoping.{Scoping, names_in, name_frame, with_names, with_name, slot_of}
 use Rattle.tclv_vars.specs.Table.{Table, Spot, read_slot, read_in, read_element, plain_at, new_element, there, locate_in, locate_element, locate_slot, locate, set_cell, set_spot, plain, elements_of}
-use Rattle.tclv_vars.specs.Sound.{Sound}
 use Rattle.tclv_vars.specs.Laws.{IsThere, cell_slot, cell_of, read_there, write_there}
 use Rattle.tclv_vars.proofs.MapLemmas.{number_there, number_other, text_there}
 use Rattle.tclv_vars.proofs.ScopeLemmas.{tied, same_some, none_some, name_later, frame_names}
-use Rattle.tclv_vars.proofs.ValueLemmas.{not_given}
+use Rattle.tclv_vars.proofs.NumberLemmas.{Numbered, beyond}
 
 -- Names where others were put
 
@@ -106,7 +105,7 @@ module _ (cs : Numbers Content) (c : ℕ) (es : Named ℕ) (i : Text) (x : ℕ) 
   more_values apart q h = number_other cs c (Array (insert es i x)) q (λ e. apart (ap (get cs) (sym e) ∙ h)) ∙ h
 
 -- a cell that held nothing gets a value
-value_put : (u : Table) (c : ℕ) → get u.contents c ≡ None → Grows u (plain u c)
+pub value_put : (u : Table) (c : ℕ) → get u.contents c ≡ None → Grows u (plain u c)
 value_put u c none = record {
   slots = λ k m x h. h;
   elements = λ a i q h. ap (λ o. get (elements_of o) i) (number_other u.contents c Plain a (λ e. none_some (sym (get-empty by_text i) ∙ ap (λ o. get (elements_of o) i) (sym (ap (get u.contents) e ∙ none)) ∙ h))) ∙ h;
@@ -136,7 +135,7 @@ array_not_plain es e = true≢false (ap is_array e)
     is_array (Some Plain) = false
     is_array (Some (Array fs)) = true
 
-module _ (t : Table) (sound : Sound t) (h : Home) (n : Text) where
+module _ (t : Table) (sound : Numbered t) (h : Home) (n : Text) where
   new_slots : (x : Slot) → slot_of t.scopes h n ≡ None → (k : Home) (m : Text) (o : Slot) → slot_of t.scopes k m ≡ Some o → slot_of (with_name t.scopes h n x) k m ≡ Some o
   new_slots x none k m o at = elim (slot_with t.scopes h n x k m) as (λ _. slot_of (with_name t.scopes h n x) k m ≡ Some o) [
     | inl p ↦ none_some (sym none ∙ ap (λ z. slot_of t.scopes z n) p.0 ∙ ap (slot_of t.scopes k) p.1 ∙ at)
@@ -144,7 +143,7 @@ module _ (t : Table) (sound : Sound t) (h : Home) (n : Text) where
   ]
 
   no_content : (c : ℕ) → t.next ≤ c → get t.contents c ≡ None
-  no_content c b = not_given t c sound b
+  no_content c b = beyond t c sound b
 
   module _ (here : IsThere t.scopes h) (none : slot_of t.scopes h n ≡ None) where
     finds_new : (index : Option Text) → Finds t h n index (locate_slot t h n None index)
@@ -194,7 +193,7 @@ module _ (t : Table) (sound : Sound t) (h : Home) (n : Text) where
   finds_slot here (Some s) e None = stay t h n None s.cell (ap (λ o. cell_slot t.contents o None) e)
   finds_slot here (Some s) e (Some i) = finds_of s e i (get t.contents s.cell) refl
 
-pub located : (t : Table) (h : Home) (n : Text) (index : Option Text) (s : Spot) → Sound t → IsThere t.scopes h → locate t h n index ≡ Ok s → Located t h n index s
+pub located : (t : Table) (h : Home) (n : Text) (index : Option Text) (s : Spot) → Numbered t → IsThere t.scopes h → locate t h n index ≡ Ok s → Located t h n index s
 located t h n index s sound here e = subst (Finds t h n index) e (finds_slot t sound h n here (slot_of t.scopes h n) refl index)
 
 -- Writing
@@ -227,7 +226,7 @@ writes_spot t h n index (Ok s) f = elim (s.fresh) as (λ b. s.fresh ≡ b → Wr
   | false ↦ λ e. writes_cell t h n index s.cell (get t.contents s.cell) refl (ap (λ u. cell_of u h n index) (sym (f.same e)) ∙ f.cell)
 ] refl
 
-pub wrote : (t : Table) (h : Home) (n : Text) (index : Option Text) (s : Spot) → Sound t → IsThere t.scopes h → write_there t h n index ≡ Ok s → Wrote t h n index s
+pub wrote : (t : Table) (h : Home) (n : Text) (index : Option Text) (s : Spot) → Numbered t → IsThere t.scopes h → write_there t h n index ≡ Ok s → Wrote t h n index s
 wrote t h n index s sound here e = subst (Writes t h n index) e (writes_spot t h n index (locate t h n index) (finds_slot t sound h n here (slot_of t.scopes h n) refl index))
 
 -- Reading
@@ -263,38 +262,8 @@ read_cell_of cs (Some s) (Some i) c h p = read_by cs (get cs s.cell) i c h p
 pub read_cell : (t : Table) (h : Home) (n : Text) (index : Option Text) (c : ℕ) → cell_of t h n index ≡ Some c → get t.contents c ≡ Some Plain → read_there t h n index ≡ Ok c
 read_cell t h n index c = read_cell_of t.contents (slot_of t.scopes h n) index c
 
--- and what is read is the name's cell, which has a value
-abbrev IsRead : Numbers Content → Option ℕ → ℕ → Type 0
-IsRead cs o q = (o ≡ Some q) × (get cs q ≡ Some Plain)
-
-plain_read : (missing : VarFault) (cs : Numbers Content) (c q : ℕ) (o : Option Content) → get cs c ≡ o → plain_at missing o c ≡ Ok q → IsRead cs (Some c) q
-plain_read missing cs c q None e h = no_err h
-plain_read missing cs c q (Some Plain) e h = (ap (λ k. Some k) (same_ok c q h), ap (get cs) (sym (same_ok c q h)) ∙ e)
-plain_read missing cs c q (Some (Array es)) e h = no_err h
-
-in_read : (cs : Numbers Content) (o : Option ℕ) (q : ℕ) → read_in cs o ≡ Ok q → IsRead cs o q
-in_read cs None q h = no_err h
-in_read cs (Some e) q h = plain_read fault.NoElement cs e q (get cs e) refl h
-
-element_read : (cs : Numbers Content) (o : Option Content) (i : Text) (q : ℕ) → read_element cs o i ≡ Ok q → IsRead cs (get (elements_of o) i) q
-element_read cs None i q h = no_err h
-element_read cs (Some Plain) i q h = no_err h
-element_read cs (Some (Array es)) i q h = in_read cs (get es i) q h
-
-slot_read : (cs : Numbers Content) (o : Option Slot) (index : Option Text) (q : ℕ) → read_slot cs o index ≡ Ok q → IsRead cs (cell_slot cs o index) q
-slot_read cs None index q h = no_err h
-slot_read cs (Some s) None q h = plain_read fault.NoVariable cs s.cell q (get cs s.cell) refl h
-slot_read cs (Some s) (Some i) q h = element_read cs (get cs s.cell) i q h
-
-pub read_back : (t : Table) (h : Home) (n : Text) (index : Option Text) (q : ℕ) → read_there t h n index ≡ Ok q → (cell_of t h n index ≡ Some q) × (get t.contents q ≡ Some Plain)
-read_back t h n index q = slot_read t.contents (slot_of t.scopes h n) index q
-
--- what is read is read still where the tables grow
-pub read_grows : (t u : Table) → Grows t u → (h : Home) (n : Text) (index : Option Text) (q : ℕ) → read_there t h n index ≡ Ok q → read_there u h n index ≡ Ok q
-read_grows t u g h n index q r = let p = read_back t h n index q r in read_cell u h n index q (cell_grows t u g h n index q p.0) (g.values q p.1)
-
 -- Two names of one cell: what is written through the one is read through the other.
-pub one_cell : (u : Table) (h k : Home) (n m : Text) (i j : Option Text) (c : ℕ) → Sound u → IsThere u.scopes h → cell_of u h n i ≡ Some c → cell_of u k m j ≡ Some c → (s : Spot) → write_there u h n i ≡ Ok s → read_there s.after k m j ≡ Ok s.cell
+pub one_cell : (u : Table) (h k : Home) (n m : Text) (i j : Option Text) (c : ℕ) → Numbered u → IsThere u.scopes h → cell_of u h n i ≡ Some c → cell_of u k m j ≡ Some c → (s : Spot) → write_there u h n i ≡ Ok s → read_there s.after k m j ≡ Ok s.cell
 one_cell u h k n m i j c sound here a b s e =
     let w = wrote u h n i s sound here e in
     let same : s.cell ≡ c = same_some s.cell c (sym w.cell ∙ cell_grows u s.after w.grows h n i c a) in

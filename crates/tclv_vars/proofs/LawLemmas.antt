@@ -1,10 +1,9 @@
 -- The laws of variables.
-use Rattle.std.proofs.Common.{◌≡◌, ◌≢◌, ℕ, ◌-◌, ◌<◌, true, false, cond, not, ◌||◌, List, inl, inr, length, slice_get, Option, None, Some, refl, sym, ap, subst, ◌∙◌, arith, IfSome}
+use Rattle.std.proofs.Common.{◌≡◌, ◌≢◌, ℕ, ◌-◌, ◌<◌, true, false, cond, not, ◌||◌, is_some, true≢false, inl, inr, length, slice_get, Option, None, Some, refl, sym, ap, subst, ◌∙◌, arith}
 use Rattle.std.specs.Prelude.{Result, Ok, Err, if◌then◌else◌, nat_lt}
 use Rattle.std.specs.Option.{option_map_or}
 use Rattle.std.specs.Cmp.{unsigned_ties, eq_by_cmp_equiv, nat_cmp_total}
 use Rattle.std.specs.FinMap.{get, insert}
-use Rattle.tclv_text.specs.Texts.{IsText}
 use Rattle.tclv_names.specs.Keyed.{Text, Numbers}
 use Rattle.tclv_vars.specs.declared.parts.Frame.{Frame}
 use Rattle.tclv_vars.specs.declared.parts.Slot.{Slot}
@@ -19,17 +18,19 @@ use Rattle.tclv_vars.specs.declared.places.Root.TheVariants as root
 use Rattle.tclv_vars.specs.declared.faults.VarFault.{VarFault}
 use Rattle.tclv_vars.specs.declared.faults.VarFault.TheVariants as fault
 use Rattle.tclv_vars.specs.Scoping.{Scoping, home, home_of, slot_of, names_in, level_of, above}
-use Rattle.tclv_vars.specs.Table.{Table, Spot, locate, read, read_slot, read_in, read_element, plain_at, elements_of}
+use Rattle.tclv_vars.specs.Table.{Table, Spot, locate, read, write, read_slot, read_in, read_element, plain_at}
 use Rattle.tclv_vars.specs.Sound.{Sound}
 use Rattle.tclv_vars.specs.Clearing.{without, is_among, freed, elements}
 use Rattle.tclv_vars.specs.Links.{root_home, is_variable, second_name, link_to, link_cell}
 use Rattle.tclv_vars.specs.Unset.{held_at, held_in, held_element, held_slot, variable, unset_at, unset}
-use Rattle.tclv_vars.specs.Laws.{IsThere, cell_slot, cell_of, read_there, ReadsBack, LeavesOthers, IsLinked, IsSecondName, IsGone, LinkLeavesOthers, IsOutside, cleared_by, UnsetLeavesOthers}
+use Rattle.tclv_vars.specs.Laws.{IsThere, cell_slot, cell_of, read_there, ReadsBack, StaysOnCells, ReadsAlike, StandsForNone, vacant, set_by, WriteLeavesOthers, IsLinked, IsNoElementOfIt, IsSecondName, IsGone, array_made, LinkLeavesOthers, cleared_by, UnsetLeavesOthers}
 use Rattle.tclv_vars.proofs.ClearLemmas.{get-without}
-use Rattle.tclv_vars.proofs.ScopeLemmas.{above_level, home-with_names}
+use Rattle.tclv_vars.proofs.ScopeLemmas.{above_level, home-with_names, length-with_names}
+use Rattle.tclv_vars.proofs.NumberLemmas.{Numbered, numbered, numbered_link, numbered_locate}
 use Rattle.tclv_vars.proofs.UndoLemmas.{homes_locate, homes_write}
-use Rattle.tclv_vars.proofs.LinkLemmas.{link_keeps, locate_keeps}
-use Rattle.tclv_vars.proofs.CellLemmas.{wrote, located, slot_here, slot_with, one_cell, read_cell, read_grows, same_ok, no_err}
+use Rattle.tclv_vars.proofs.LinkLemmas.{locate_keeps}
+use Rattle.tclv_vars.proofs.CellLemmas.{wrote, located, slot_here, slot_with, one_cell, read_cell, cell_grows, same_ok, no_err}
+use Rattle.tclv_vars.proofs.OtherLemmas.{set_write, made, reads_alike, among_left, among_right, is_vacant, slot_stays}
 
 pub there_of : (s : Scoping) (i : ℕ) → i < length s.frames → IsThere s (home_of s i)
 there_of s i b = elim (slice_get s.frames i) as (λ o. IsThere s (option_map_or (λ (f : Frame). if f.local then Local i else Of f.space) o (Local i))) [
@@ -44,11 +45,8 @@ there_at t (place.Space n) sound = tt
 pub reads_back : (t : Table) (at : Place) (n : Text) (index : Option Text) → Sound t → ReadsBack t at n index
 reads_back t at n index sound s e =
     let h = home t.scopes at in
-    let w = wrote t h n index s sound (there_at t at sound) e in
+    let w = wrote t h n index s (numbered t sound) (there_at t at sound) e in
     ap (λ k. read_there s.after k n index) (homes_write t at h n index s e) ∙ read_cell s.after h n index s.cell w.cell w.value
-
-pub leaves_others : (t : Table) (at : Place) (n : Text) (index : Option Text) → Sound t → LeavesOthers t at n index
-leaves_others t at n index sound s e h other i c r = read_grows t s.after (wrote t (home t.scopes at) n index s sound (there_at t at sound) e).grows h other i c r
 
 -- Links
 
@@ -88,7 +86,7 @@ found_name t local name index h u e =
 found_link : (t : Table) (local : Text) (r : Root) (name : Text) (index : Option Text) (h : Home) (u : Table) → IsLinked t local r name index h u → Found t (home t.scopes place.Frame) local (locate t h name index) u
 found_link t local r name index h u l = found_name t local name index h u (ap (λ x. link_to (home t.scopes place.Frame) local (link_cell t local name index x)) (sym l.root) ∙ l.linked)
 
-module _ (t : Table) (local : Text) (r : Root) (name : Text) (index : Option Text) (h : Home) (u : Table) (text : IfSome index IsText) (sound : Sound t) (l : IsLinked t local r name index h u) where
+module _ (t : Table) (local : Text) (r : Root) (name : Text) (index : Option Text) (h : Home) (u : Table) (sound : Sound t) (l : IsLinked t local r name index h u) (apart : IsNoElementOfIt t local h name index) where
   abbrev here : Home
   here = home t.scopes place.Frame
 
@@ -97,12 +95,12 @@ module _ (t : Table) (local : Text) (r : Root) (name : Text) (index : Option Tex
   both s at =
       let put : Slot = record { cell = s.cell; own = false } in
       let v : Table = second_name s.after here local s.cell in
-      let found = located t h name index s sound (there_root t r h sound l.root) at in
+      let found = located t h name index s (numbered t sound) (there_root t r h sound l.root) at in
       let near = there_same t.scopes s.after.scopes here (locate_keeps t h name index s at).1 (there_at t place.Frame sound) in
       let mine : cell_of v here local None ≡ Some s.cell = ap (λ o. cell_slot v.contents o None) (slot_here s.after.scopes here local put near) in
       let by : (j : Option Text) → index ≡ j → here ≡ h → local ≡ name → cell_of v h name j ≡ Some s.cell = λ j e p q. elim j as (λ j. index ≡ j → cell_of v h name j ≡ Some s.cell) [
         | None ↦ λ _. ap (λ k. cell_of v k name None) (sym p) ∙ ap (λ m. cell_of v here m None) (sym q) ∙ mine
-        | Some i ↦ λ e. absurd (l.other i e p q)
+        | Some i ↦ λ e. absurd (apart i e p q)
       ] e in (
         mine,
         elim (slot_with s.after.scopes here local put h name) as (λ _. cell_of v h name index ≡ Some s.cell) [
@@ -114,18 +112,22 @@ module _ (t : Table) (local : Text) (r : Root) (name : Text) (index : Option Tex
   pub second_names : IsSecondName local name index h u
   second_names =
       let found = found_link t local r name index h u l in
-      let kept = link_keeps t local r name index u text sound l.linked in
-      let cells = both found.spot found.at in
-      let mine : cell_of u here local None ≡ Some found.spot.cell = ap (λ v. cell_of v here local None) (sym found.after) ∙ cells.0 in
-      let other : cell_of u h name index ≡ Some found.spot.cell = ap (λ v. cell_of v h name index) (sym found.after) ∙ cells.1 in
-      let put : Slot = record { cell = found.spot.cell; own = false } in
-      let home_same : home u.scopes place.Frame ≡ here = ap (λ (v : Table). home v.scopes place.Frame) (sym found.after)
-      ∙ home-with_names found.spot.after.scopes here (insert (names_in found.spot.after.scopes here) local put) place.Frame ∙ homes_locate t place.Frame h name index found.spot found.at in
-      let local_cell : cell_of u (home u.scopes place.Frame) local None ≡ Some found.spot.cell = ap (λ k. cell_of u k local None) home_same ∙ mine in
+      let q = found.spot in
+      let put : Slot = record { cell = q.cell; own = false } in
+      let ns = insert (names_in q.after.scopes here) local put in
+      let given = numbered_locate t sound h name index q found.at in
+      let numbers : Numbered u = subst Numbered found.after (numbered_link q.after here local q.cell given.1 given.0) in
+      let frames : length u.scopes.frames ≡ length t.scopes.frames = ap (λ (v : Table). length v.scopes.frames) (sym found.after) ∙ length-with_names q.after.scopes here ns ∙ (locate_keeps t h name index q found.at).1 in
+      let cells = both q found.at in
+      let mine : cell_of u here local None ≡ Some q.cell = ap (λ v. cell_of v here local None) (sym found.after) ∙ cells.0 in
+      let other : cell_of u h name index ≡ Some q.cell = ap (λ v. cell_of v h name index) (sym found.after) ∙ cells.1 in
+      let home_same : home u.scopes place.Frame ≡ here = ap (λ (v : Table). home v.scopes place.Frame) (sym found.after) ∙ home-with_names q.after.scopes here ns place.Frame ∙ homes_locate t place.Frame h name index q found.at in
+      let local_cell : cell_of u (home u.scopes place.Frame) local None ≡ Some q.cell = ap (λ k. cell_of u k local None) home_same ∙ mine in
+      let near : IsThere u.scopes (home u.scopes place.Frame) = subst (IsThere u.scopes) (sym home_same) (there_same t.scopes u.scopes here frames (there_at t place.Frame sound)) in
       record {
-        forth = λ s e. one_cell u (home u.scopes place.Frame) h local name None index found.spot.cell kept.sound (there_at u place.Frame kept.sound) local_cell other s e;
+        forth = λ s e. one_cell u (home u.scopes place.Frame) h local name None index q.cell numbers near local_cell other s e;
         back = λ s e. ap (λ k. read_there s.after k local None) (homes_write u place.Frame h name index s e)
-            ∙ one_cell u h (home u.scopes place.Frame) name local index None found.spot.cell kept.sound (there_same t.scopes u.scopes h kept.frames.1 (there_root t r h sound l.root)) other local_cell s e;
+            ∙ one_cell u h (home u.scopes place.Frame) name local index None q.cell numbers (there_same t.scopes u.scopes h frames (there_root t r h sound l.root)) other local_cell s e;
       }
 
 -- Unsetting
@@ -196,45 +198,67 @@ is_gone t at n index =
 
 -- Others stay
 
--- a name that isn't the local one of a link is read as before
-second_leaves : (t : Table) (here : Home) (local : Text) (q : ℕ) (h : Home) (other : Text) (i : Option Text) (c : ℕ) → (here ≡ h → local ≢ other) → read_there t h other i ≡ Ok c → read_there (second_name t here local q) h other i ≡ Ok c
-second_leaves t here local q h other i c apart r = elim (slot_with t.scopes here local (record { cell = q; own = false }) h other) as (λ _. read_there (second_name t here local q) h other i ≡ Ok c) [
-  | inl p ↦ absurd (apart p.0 p.1)
-  | inr g ↦ ap (λ o. read_slot t.contents o i) g ∙ r
-]
+pub write_others : (t : Table) (at : Place) (n : Text) (index : Option Text) → Sound t → WriteLeavesOthers t at n index
+write_others t at n index sound s e h other i out =
+    let here = home t.scopes at in
+    let w = set_write t here n index s (numbered t sound) (there_at t at sound) e in
+    let still : (c : ℕ) → is_among (set_by t here n index s.after) c ≡ false → get t.contents c ≡ None → get s.after.contents c ≡ None = λ c apart none. elim (w.only c none) as (λ _. get s.after.contents c ≡ None) [
+      | inl f ↦ f
+      | inr p ↦ absurd (true≢false (sym (elim p as (λ _. is_among (set_by t here n index s.after) c ≡ true) [
+        | inl q ↦ among_left (vacant t.contents (cell_of s.after here n None)) (vacant t.contents (cell_of s.after here n index)) c (is_vacant t.contents (cell_of s.after here n None) c q none)
+        | inr q ↦ among_right (vacant t.contents (cell_of s.after here n None)) (vacant t.contents (cell_of s.after here n index)) c (is_vacant t.contents (cell_of s.after here n index) c q none)
+      ]) ∙ apart))
+    ] in
+    reads_alike t s.after w.grown h other i (λ c at none. still c (out.variable c at) none) (λ c at none. still c (out.element c at) none)
 
-pub link_others : (t : Table) (local : Text) (r : Root) (name : Text) (index : Option Text) (u : Table) → Sound t → LinkLeavesOthers t local r name index u
-link_others t local r name index u sound e h other i c apart read =
-    let here = home t.scopes place.Frame in
-    elim (root_home t.scopes r) as (λ k. root_home t.scopes r ≡ k → link_to here local (link_cell t local name index k) ≡ Ok u → read_there u h other i ≡ Ok c) [
-      | Err x ↦ λ f g. no_err g
-      | Ok k ↦ λ f g.
-          let found = found_name t local name index k u g in
-          let seen = located t k name index found.spot sound (there_root t r k sound f) found.at in
-          subst (λ v. read_there v h other i ≡ Ok c) found.after (second_leaves found.spot.after here local found.spot.cell h other i c apart (read_grows t found.spot.after seen.grows h other i c read))
-    ] refl e
+-- the array that a link makes is listed
+array_listed : (t : Table) (k : Home) (name : Text) (index : Option Text) (s : Spot) (c : ℕ) → is_some index ≡ true → cell_of s.after k name None ≡ Some c → get t.contents c ≡ None → is_among (array_made t k name index (Ok s)) c ≡ true
+array_listed t k name None s c one at none = absurd (true≢false (sym one))
+array_listed t k name (Some i) s c one at none = is_vacant t.contents (cell_of s.after k name None) c at none
 
-module _ (cs : Numbers Content) (fs : List ℕ) where
-  stays : (c : ℕ) → is_among fs c ≡ false → get (without cs fs) c ≡ get cs c
-  stays c e = get-without cs fs c ∙ ap (λ b. cond (not b) (get cs c) None) e
+-- a name that isn't the local one stands for what it stood for
+module _ (v : Table) (here : Home) (local : Text) (q : ℕ) (h : Home) (other : Text) (apart : here ≡ h → local ≢ other) where
+  other_slot : slot_of (second_name v here local q).scopes h other ≡ slot_of v.scopes h other
+  other_slot = elim (slot_with v.scopes here local (record { cell = q; own = false }) h other) as (λ _. slot_of (second_name v here local q).scopes h other ≡ slot_of v.scopes h other) [
+    | inl p ↦ absurd (apart p.0 p.1)
+    | inr g ↦ g
+  ]
 
-  in_stays : (o : Option ℕ) (q : ℕ) → ((c : ℕ) → o ≡ Some c → is_among fs c ≡ false) → read_in cs o ≡ Ok q → read_in (without cs fs) o ≡ Ok q
-  in_stays None q out r = r
-  in_stays (Some e) q out r = ap (λ o. plain_at fault.NoElement o e) (stays e (out e refl)) ∙ r
+  other_cell : (j : Option Text) → cell_of (second_name v here local q) h other j ≡ cell_of v h other j
+  other_cell j = ap (λ o. cell_slot v.contents o j) other_slot
 
-  element_stays : (o : Option Content) (i : Text) (q : ℕ) → ((c : ℕ) → get (elements_of o) i ≡ Some c → is_among fs c ≡ false) → read_element cs o i ≡ Ok q → read_element (without cs fs) o i ≡ Ok q
-  element_stays None i q out r = no_err r
-  element_stays (Some Plain) i q out r = no_err r
-  element_stays (Some (Array es)) i q out r = in_stays (get es i) q out r
+module _ (t : Table) (local : Text) (r : Root) (name : Text) (index : Option Text) (k : Home) (u : Table) (sound : Sound t) (l : IsLinked t local r name index k u) where
+  pub link_others : LinkLeavesOthers t local k name index u
+  link_others h other i differ out =
+      let here = home t.scopes place.Frame in
+      let found = found_link t local r name index k u l in
+      let q = found.spot in
+      let m = made t k name index q (numbered t sound) (there_root t r k sound l.root) found.at in
+      let cell : (j : Option Text) → cell_of u h other j ≡ cell_of q.after h other j = λ j. ap (λ v. cell_of v h other j) (sym found.after) ∙ other_cell q.after here local q.cell h other differ j in
+      let still : (c : ℕ) → is_among (array_made t k name index (locate t k name index)) c ≡ false → get t.contents c ≡ None → get q.after.contents c ≡ None = λ c apart none. elim (m.only c none) as (λ _. get q.after.contents c ≡ None) [
+        | inl f ↦ f
+        | inr p ↦ absurd (true≢false (sym (ap (λ x. is_among (array_made t k name index x) c) found.at ∙ array_listed t k name index q c p.0 p.1 none) ∙ apart))
+      ] in
+      ap (λ v. read_there v h other i) (sym found.after) ∙ ap (λ o. read_slot q.after.contents o i) (other_slot q.after here local q.cell h other differ)
+      ∙ reads_alike t q.after m.grown h other i (λ c at none. still c (out.variable c (cell None ∙ at)) none) (λ c at none. still c (out.element c (cell i ∙ at)) none)
 
-  slot_stays : (o : Option Slot) (j : Option Text) (q : ℕ) → ((c : ℕ) → cell_slot cs o None ≡ Some c → is_among fs c ≡ false) → ((c : ℕ) → cell_slot cs o j ≡ Some c → is_among fs c ≡ false) → read_slot cs o j ≡ Ok q → read_slot (without cs fs) o j ≡ Ok q
-  slot_stays None j q whole part r = no_err r
-  slot_stays (Some s) None q whole part r = ap (λ o. plain_at fault.NoVariable o s.cell) (stays s.cell (whole s.cell refl)) ∙ r
-  slot_stays (Some s) (Some i) q whole part r = ap (λ o. read_element (without cs fs) o i) (stays s.cell (whole s.cell refl)) ∙ element_stays (get cs s.cell) i q part r
+  pub link_stays : (h : Home) (other : Text) → (home t.scopes place.Frame ≡ h → local ≢ other) → StaysOnCells t u h other
+  link_stays h other differ j c at =
+      let here = home t.scopes place.Frame in
+      let found = found_link t local r name index k u l in
+      let q = found.spot in
+      let seen = located t k name index q (numbered t sound) (there_root t r k sound l.root) found.at in
+      ap (λ v. cell_of v h other j) (sym found.after) ∙ other_cell q.after here local q.cell h other differ j ∙ cell_grows t q.after seen.grows h other j c at
 
-unset_by : (t : Table) (r : Result ℕ VarFault) (h : Home) (other : Text) (i : Option Text) (c : ℕ) → IsOutside (cleared_by t.contents r) t h other i → read_there t h other i ≡ Ok c → read_there (unset_at t r) h other i ≡ Ok c
-unset_by t (Err e) h other i c out read = read
-unset_by t (Ok k) h other i c out read = slot_stays t.contents (freed t.contents k) (slot_of t.scopes h other) i c out.variable out.element read
+pub write_stays : (t : Table) (at : Place) (n : Text) (index : Option Text) (s : Spot) → Sound t → write t at n index ≡ Ok s → (h : Home) (other : Text) → StaysOnCells t s.after h other
+write_stays t at n index s sound e h other = cell_grows t s.after (wrote t (home t.scopes at) n index s (numbered t sound) (there_at t at sound) e).grows h other
+
+unset_by : (t : Table) (r : Result ℕ VarFault) (h : Home) (other : Text) (i : Option Text) → StandsForNone (cleared_by t.contents r) t h other i → ReadsAlike t (unset_at t r) h other i
+unset_by t (Err e) h other i out = refl
+unset_by t (Ok k) h other i out = slot_stays t.contents (freed t.contents k) (slot_of t.scopes h other) i out.variable out.element
 
 pub unset_others : (t : Table) (at : Place) (n : Text) (index : Option Text) → UnsetLeavesOthers t at n index
 unset_others t at n index = unset_by t (variable t at n index)
+
+pub unset_scopes : (t : Table) (at : Place) (n : Text) (index : Option Text) → (unset t at n index).scopes ≡ t.scopes
+unset_scopes t at n index = home_unset t (variable t at n index)

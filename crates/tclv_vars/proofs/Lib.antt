@@ -2,6 +2,7 @@ pub mod MapLemmas
 pub mod EntryLemmas
 pub mod ScopeLemmas
 pub mod SoundLemmas
+pub mod NumberLemmas
 pub mod ValueLemmas
 pub mod FrameLemmas
 pub mod UndoLemmas
@@ -11,6 +12,7 @@ pub mod AnswerLemmas
 pub mod LinkLemmas
 pub mod IndexLemmas
 pub mod CellLemmas
+pub mod OtherLemmas
 pub mod LawLemmas
 pub mod ByteOrder
 pub mod OrderLemmas

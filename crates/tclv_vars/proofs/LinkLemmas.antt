@@ -74,8 +74,5 @@ pub leaves_same : (m : Result Table VarFault) (t : Table) (r : Result (Unit {0})
 leaves_same m t (Ok u) new l = tt
 leaves_same m t (Err e) new l = l.1
 
-pub link_keeps : (t : Table) (local : Text) (root : Root) (name : Text) (index : Option Text) (u : Table) → IfSome index IsText → Sound t → linked t local root name index ≡ Ok u → Linked t u
-link_keeps t local root name index u text sound e = subst (AllLinked t) e (all_linked t local name index text sound root)
-
 pub locate_keeps : (t : Table) (h : Home) (name : Text) (index : Option Text) (s : Spot) → locate t h name index ≡ Ok s → Same t s.after
 locate_keeps t h name index s e = subst (Frames t) e (frames_locate t h name index)

@@ -21,7 +21,7 @@ use Rattle.tclv_vars.specs.Links.{second_name}
 use Rattle.tclv_vars.specs.Sound.{Sound, IsNested}
 use Rattle.tclv_vars.proofs.ScopeLemmas.{tied, same_some, none_some, slot_cases, frame_end, IsNested-with_names, IsNested-at_frame, IsNested-pushed, above_level}
 
-content_cases : (cs : Numbers Content) (c : ℕ) (x : Content) (a : ℕ) (y : Content) → get (insert cs c x) a ≡ Some y → ((a ≡ c) × (y ≡ x)) ⊎ (get cs a ≡ Some y)
+pub content_cases : (cs : Numbers Content) (c : ℕ) (x : Content) (a : ℕ) (y : Content) → get (insert cs c x) a ≡ Some y → ((a ≡ c) × (y ≡ x)) ⊎ (get cs a ≡ Some y)
 content_cases cs c x a y h = elim (eq_by_cmp nat_cmp a c) as (λ b. eq_by_cmp nat_cmp a c ≡ b → cond b (Some x) (get cs a) ≡ Some y → ((a ≡ c) × (y ≡ x)) ⊎ (get cs a ≡ Some y)) [
   | true ↦ λ e g. inl (nat_cmp-IsAntisymmetric a c (tied (nat_cmp a c) e), sym (same_some x y g))
   | false ↦ λ e g. inr g

@@ -15,7 +15,7 @@ loop-slot-preserved-after-slot c =
         Goes-own _ _ _ _ _ _ _ _ c.in-Some.ensures.entry c.in-Some.ensures.rest before.0 w.if-slot.true (ap (λ r. r.map) w.cells-is ∙ w.clear.ensures.cells) (ap (λ (v : View). v.cells) w.store-is ∙ w.clear.ensures.texts),
         ap (λ (v : View). v.stack) w.store-is ∙ w.clear.ensures.stack ∙ before.3,
         subst (λ (v : View). KeepsMade c.args.store.now v) (sym w.store-is)
-            (keeps_both _ c.loop-slot.store w.clear.new.store before.4 w.clear.ensures.keeps (fewer_without c.loop-slot.store w.clear.new.store (freed c.loop-slot.cells.map c.in-Some.slot.cell) w.clear.ensures.stack w.clear.ensures.texts)),
+            (keeps_both c.args.store.now c.loop-slot.store w.clear.new.store before.4 w.clear.ensures.keeps (fewer_without c.loop-slot.store w.clear.new.store (freed c.loop-slot.cells.map c.in-Some.slot.cell) w.clear.ensures.stack w.clear.ensures.texts)),
       )
       | else-slot w ↦ (
         Goes-link _ _ _ _ _ _ _ _ c.in-Some.ensures.entry c.in-Some.ensures.rest before.0 w.if-slot.false (ap (λ r. r.map) w.cells-is) (ap (λ (v : View). v.cells) w.store-is),
