@@ -1,6 +1,6 @@
 -- Laws of paths of indices.
 use Rattle.std.proofs.Common.{◌≡◌, ◌≢◌, ℕ, ◌+◌, ◌-◌, ◌<◌, ◌≤◌, Bool, true, false, cond, ltb, List, [], ◌∷◌, ◌++◌, length, take, drop, get_or, Option, Some, None, Result, Ok, Err, refl, sym, ap, ◌∙◌, subst, arith}
-use Rattle.std.specs.Prelude.{ℤ, pos, negsuc, IsOkAnd, slice_get, option_to_list}
+use Rattle.std.specs.Prelude.{ℤ, pos, negsuc, IfOk, IsOkAnd, slice_get, option_to_list}
 use Rattle.std.specs.Option.{option_map_or}
 use Rattle.std.specs.Result.{result_unwrap_or}
 use Rattle.tclv_text.specs.Lists.{ListFlaw}
@@ -13,7 +13,7 @@ use Rattle.tclv_value.specs.View.{View, StaysMade}
 use Rattle.tclv_reply.specs.Replies.{Grows, Reads}
 use Rattle.tclv_lists.specs.Paths.{path_of, checked, element, element_at, StepsInto, IsPathAt}
 use Rattle.tclv_reply.specs.Places.{place_among}
-use Rattle.tclv_reply.proofs.Laws.{grows_trans, get_some, list_known}
+use Rattle.tclv_reply.proofs.Laws.{grows_trans, get_some, given_read, list_known}
 
 among : (b : Bool) (j k : ℕ) → cond b (Some j) None ≡ Some k → (b ≡ true) × (j ≡ k)
 among true j k e = (refl, cc)
@@ -54,16 +54,23 @@ module _ (t i u j : List ℕ) (old one two new : View) (len k : ℕ) (found : Op
       }
 
 -- the elements of a word are its path
-pub named_list : (b : Bool) (r : Result (List (List ℕ)) ListFlaw) (t : List ℕ) (items mid new : List (List ℕ)) (from to : ℕ) → b ≡ false → r ≡ Ok items → new ≡ mid ++ items → from ≡ length mid → to ≡ length new → IsPathAt (cond b (t ∷ []) (result_unwrap_or r (t ∷ []))) new (from, to)
-named_list true r t items mid new from to e n p f g = absurd (cc)
-named_list false r t items mid new from to e n p f g =
-    let path : result_unwrap_or r (t ∷ []) ≡ items = ap (λ x. result_unwrap_or x (t ∷ [])) n in
+pub path_pushed : (items mid new : List (List ℕ)) (from to : ℕ) → new ≡ mid ++ items → from ≡ length mid → to ≡ length new → IsPathAt items new (from, to)
+path_pushed items mid new from to p f g =
     let long : length new ≡ length mid + length items = omega (arith, ap length p, length-append mid items) in
     let count : length items ≤ to - from = omega arith in record {
       order = omega arith;
       within = omega arith;
-      is = ap (λ k. take (to - from) (drop k new)) f ∙ ap (λ q. take (to - from) (drop (length mid) q)) p ∙ ap (take (to - from)) (drop_at mid items (length mid) refl) ∙ take_all (to - from) items count ∙ sym path;
+      is = ap (λ k. take (to - from) (drop k new)) f ∙ ap (λ q. take (to - from) (drop (length mid) q)) p ∙ ap (take (to - from)) (drop_at mid items (length mid) refl) ∙ take_all (to - from) items count;
     }
+
+-- The elements of a word that is no index and is a list are the path.
+pub named_path : {E : Type 0} (b : Bool) (t u : List ℕ) (r : Result (ℕ × ℕ) E) (new : List (List ℕ)) → b ≡ false → u ≡ t → IfOk r (λ x. (ts : List (List ℕ)) × (list_of u ≡ Gives ts) × IsPathAt ts new x)
+    → IfOk r (λ x. IsPathAt (cond b (t ∷ []) (result_unwrap_or (elements t) (t ∷ []))) new x)
+named_path b t u (Ok x) new n e h =
+    let read : elements t ≡ Ok h.0 = given_read (elements t) h.0 (ap list_of (sym e) ∙ h.1) in
+    let path : h.0 ≡ cond b (t ∷ []) (result_unwrap_or (elements t) (t ∷ [])) = sym (ap (λ v. cond v (t ∷ []) (result_unwrap_or (elements t) (t ∷ []))) n ∙ ap (λ q. result_unwrap_or q (t ∷ [])) read) in
+    subst (λ ts. IsPathAt ts new x) path h.2
+named_path b t u (Err e) new n same h = tt
 
 pub named_word : (b : Bool) (r : Result (List (List ℕ)) ListFlaw) (f : ListFlaw) (s : List (List ℕ)) (word end : ℕ) → r ≡ Err f → word < length s → end ≡ word + 1 → IsPathAt (cond b (get_or s word [] ∷ []) (result_unwrap_or r (get_or s word [] ∷ []))) s (word, end)
 named_word b r f s word end e h n =

@@ -11,6 +11,8 @@ use Rattle.tclv_model.specs.Rows.{Answer, VarAnswer, Gives, Variable, and_then, 
 use Rattle.tclv_model.specs.Values.{list_of, place_of}
 use Rattle.tclv_value.specs.Lists.{replaced}
 use Rattle.tclv_value.specs.View.{View}
+use Rattle.tclv_value.specs.ListObjects.{AppendsTop}
+use Rattle.tclv_value.specs.declared.places.At.TheVariants.{Cell}
 use Rattle.tclv_reply.specs.Replies.{Grows, EndsIn, Refused, cells_with}
 use Rattle.tclv_lists.specs.Paths.{path_of, checked, put_along}
 use Rattle.tclv_reply.specs.Variables.{both, text_of_set, value_of}
@@ -34,6 +36,11 @@ abbrev pub row_lappend : List ℕ → List (List ℕ) → Variable → VarAnswer
 row_lappend call [] v = wrong_count call (codes " varName ?value ...?")
 row_lappend call (name ∷ values) v =
     and_then (value_of name v) (λ old. let t = unwrap_or old [] in and_then (list_of t) (λ ts. both (appended t values ts)))
+
+-- Where the variable has a value, the object behind it becomes what adding the top text to its list makes of it.
+unfoldable pub Appends : VarState → View → View → Type 0
+Appends (var.Cell cell) old new = IsSome (get old.cells cell) → AppendsTop old (Cell cell) new
+Appends _ old new = Unit {0}
 
 -- `lset varName ?index ...? newValue`: the value at the end of the path; without an index it is the whole
 abbrev pub lset_of : List ℕ → List (List ℕ) → List ℕ → Variable → VarAnswer

@@ -1,5 +1,5 @@
 // The commands that give a changed list.
-ghost use Rattle.std.specs.Prelude.{◌≡◌, ℕ, ℤ, List, ◌+◌, ◌-◌, ◌<◌, ◌≤◌, [], ◌∷◌, ◌++◌, length, map, take, drop, min, max, pos, ◌+ℤ◌, if◌then◌else◌, OnOk, IfOk, slice_index_or};
+ghost use Rattle.std.specs.Prelude.{◌≡◌, ℕ, ℤ, List, ◌+◌, ◌-◌, ◌<◌, ◌≤◌, [], ◌∷◌, ◌++◌, length, map, take, drop, min, max, pos, ◌+ℤ◌, if◌then◌else◌, OnOk, IfOk, IsOk, slice_index_or};
 ghost use Rattle.std.specs.List.{All};
 ghost use Rattle.std.specs.Str.{chars};
 ghost use Rattle.std.specs.Result.{ForOk};
@@ -21,7 +21,7 @@ use tclv_reply::{
     clipped_behind, clipped_place, list_len, place_among, push_bytes, refuse_list, refuse_words,
     settle,
 };
-use tclv_text::{NoMemory, Span, split_list};
+use tclv_text::{ListFault, NoMemory, Span, split_list};
 use tclv_value::{At, Store};
 
 // Pushes the list of the elements of a list from the last to the first.
@@ -210,6 +210,7 @@ fn push_kept(store: &mut Store, text: &[u8], spans: &[Span], marks: &[bool]) -> 
 // Pushes the elements of a text that are not marked.
 fn push_without(store: &mut Store, text: &[u8], marks: &[bool]) -> Result<(), NoMemory>
     requires text { IsText text.now }
+    requires list { IsOk (elements (chars text.now)) }
     requires count { ForOk (elements (chars text.now)) (λ ts. length ts ≡ length marks.now) }
     ensures grows { Grows store.old store.new }
     ensures pushed { OnOk result ((ks : List ℤ) → IsMarked (length marks.now) ks marks.now →
@@ -218,7 +219,8 @@ fn push_without(store: &mut Store, text: &[u8], marks: &[bool]) -> Result<(), No
 {
     match split_list(store.allocator(), text) {
         Ok(spans) => push_kept(store, text, spans.all(), marks),
-        Err(_fault) => Err(NoMemory),
+        Err(ListFault::NoMemory) => Err(NoMemory),
+        Err(_) => unreachable!(),
     }
 }
 

@@ -1,5 +1,5 @@
 // The commands that join texts and split them.
-ghost use Rattle.std.specs.Prelude.{◌≡◌, ℕ, List, ◌+◌, ◌-◌, ◌<◌, ◌≤◌, ◌++◌, [], ◌∷◌, length, map, take, drop, codes, if◌then◌else◌, OnOk, OnErr, IfOk, slice_index_or};
+ghost use Rattle.std.specs.Prelude.{◌≡◌, ℕ, List, ◌+◌, ◌-◌, ◌<◌, ◌≤◌, ◌++◌, [], ◌∷◌, length, map, take, drop, codes, if◌then◌else◌, OnOk, OnErr, IfOk, IsOk, slice_index_or};
 ghost use Rattle.std.specs.Str.{chars};
 ghost use Rattle.std.specs.List.{All, prefix_len, suffix_len, slice_split};
 ghost use Rattle.std.specs.Result.{ForOk};
@@ -19,7 +19,7 @@ ghost use Rattle.tclv_lists.specs.Joining.{joined, joined_of, row_join, spaced, 
 use std::alloc::Global;
 use tclv_model::CmdFault;
 use tclv_reply::{list_len, make_word, push_ascii, push_bytes, refuse_words, settle};
-use tclv_text::{NoMemory, Span, Text, as_str, split_list, unescape};
+use tclv_text::{ListFault, NoMemory, Span, Text, as_str, split_list, unescape};
 use tclv_value::{At, Store};
 
 // Whether the byte is white space of lists.
@@ -198,6 +198,7 @@ fn join_spans(
 // The elements of a text, with a separator between them.
 fn join_elements(alloc: Global, text: &[u8], separator: &[u8]) -> Result<Vec<u8>, NoMemory>
     requires text { IsText text.now }
+    requires list { IsOk (elements (chars text.now)) }
     requires separator { IsText separator.now }
     ensures utf8 { IfOk result (λ out. IsText out.items) }
     ensures text { IfOk result (λ out. ForOk (elements (chars text.now)) (λ ts.
@@ -205,7 +206,8 @@ fn join_elements(alloc: Global, text: &[u8], separator: &[u8]) -> Result<Vec<u8>
 {
     match split_list(alloc, text) {
         Ok(spans) => join_spans(alloc, text, spans.all(), separator),
-        Err(_fault) => Err(NoMemory),
+        Err(ListFault::NoMemory) => Err(NoMemory),
+        Err(_) => unreachable!(),
     }
 }
 
@@ -215,6 +217,7 @@ fn joined_text(store: &Store, list: usize, separator: usize) -> Result<Vec<u8>, 
     requires separator { separator < length store.now.stack }
     requires list_made { IsMade store.now (Stack list) }
     requires separator_made { IsMade store.now (Stack separator) }
+    requires elements { IsOk (elements (slice_index_or store.now.stack list [])) }
     ensures utf8 { IfOk result (λ out. IsText out.items) }
     ensures text { IfOk result (λ out.
         ForOk (elements (slice_index_or store.now.stack list [])) (λ ts. chars out.items ≡

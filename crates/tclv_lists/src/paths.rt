@@ -1,16 +1,17 @@
 // Paths of indices in lists.
-ghost use Rattle.std.specs.Prelude.{◌≡◌, ◌+◌, ◌-◌, ◌<◌, ◌≤◌, ◌++◌, [], ◌∷◌, length, take, drop, IfOk, OnOk, Ok, slice_index_or};
+ghost use Rattle.std.specs.Prelude.{◌≡◌, ℕ, List, ◌+◌, ◌-◌, ◌<◌, ◌≤◌, ◌++◌, [], ◌∷◌, length, take, drop, IfOk, OnOk, Ok, slice_index_or};
 ghost use Rattle.std.specs.Result.{ForOk};
 ghost use Rattle.tclv_value.specs.View.{IsMade};
 ghost use Rattle.tclv_value.specs.declared.places.At.TheVariants.{Stack};
 ghost use Rattle.tclv_text.specs.Elements.{elements};
 ghost use Rattle.tclv_model.specs.Rows.{Gives};
+ghost use Rattle.tclv_model.specs.Values.{list_of};
 ghost use Rattle.tclv_reply.specs.Replies.{Grows, Leaves};
 ghost use Rattle.tclv_lists.specs.Paths.{path_of, checked, element_at, StepsInto, IsPathAt};
 
 use tclv_model::CmdFault;
 use tclv_reply::{
-    check_index, is_index, know_text, list_len, make_word, place_among, push_all, push_bytes,
+    check_index, is_index, know_text, list_len, make_word, place_among, push_bytes, push_elements,
     push_word, refuse_list,
 };
 use tclv_text::NoMemory;
@@ -73,6 +74,20 @@ pub(crate) fn push_at(
     Ok(())
 }
 
+// Pushes the elements of a word that is a list. Where they stand.
+fn push_path(store: &mut Store, word: usize) -> Result<(usize, usize), NoMemory>
+    requires { word < length store.old.stack }
+    ensures grows { Grows store.old store.new }
+    ensures path { IfOk result (λ r. (ts : List (List ℕ)) × (list_of (slice_index_or store.old.stack word []) ≡ Gives ts)
+        × IsPathAt ts store.new.stack r) }
+{
+    let from = store.height();
+    match push_elements(store, At::Stack(word)) {
+        Ok(()) => Ok((from, store.height())),
+        Err(_) => Err(NoMemory),
+    }
+}
+
 // Where the path is that one word names, which is made: the word, or its elements where it is no index and is a
 // list.
 fn read_word_path(store: &mut Store, word: usize, end: usize) -> Result<(usize, usize), NoMemory>
@@ -87,12 +102,8 @@ fn read_word_path(store: &mut Store, word: usize, end: usize) -> Result<(usize, 
         return Ok((word, end));
     }
     know_text(store, At::Stack(word));
-    match store.elements_at(At::Stack(word)) {
-        Ok(elements) => {
-            let from = store.height();
-            push_all(store, elements.as_slice())?;
-            Ok((from, store.height()))
-        }
+    match store.list_len(At::Stack(word)) {
+        Ok(_len) => push_path(store, word),
         Err(ValueFault::NotList(_why)) => Ok((word, end)),
         Err(ValueFault::NoMemory) => Err(NoMemory),
         Err(_) => unreachable!(),

@@ -1,5 +1,5 @@
 // The command that adds to a list in a variable.
-ghost use Rattle.std.specs.Prelude.{◌≡◌, ◌+◌, ◌-◌, ◌<◌, ◌≤◌, ◌++◌, length, is_some, OnOk, OnErr};
+ghost use Rattle.std.specs.Prelude.{◌≡◌, ◌+◌, ◌-◌, ◌<◌, ◌≤◌, ◌++◌, length, is_some, IsTrue, OnOk, OnErr};
 ghost use Rattle.std.specs.FinMap as finite;
 ghost use Rattle.tclv_text.specs.Quotes.{list_text};
 ghost use Rattle.tclv_model.specs.Rows.{and_then};
@@ -10,7 +10,8 @@ ghost use Rattle.tclv_value.specs.View.{HasPlace, text_at};
 ghost use Rattle.tclv_value.specs.declared.places.At.TheVariants.{Cell};
 ghost use Rattle.tclv_reply.specs.Replies.{call_word, Grows, HasName, variable_of, VarAnswers};
 ghost use Rattle.tclv_reply.specs.Variables.{both};
-ghost use Rattle.tclv_lists.specs.Variables.{appended, row_lappend};
+ghost use Rattle.tclv_lists.specs.Variables.{appended, Appends, row_lappend};
+ghost use Rattle.tclv_value.specs.ListObjects.{AppendsTop};
 
 use tclv_model::{CmdFault, VarState};
 use tclv_reply::{
@@ -40,6 +41,27 @@ fn append_words(store: &mut Store, cell: u64, n: usize) -> Result<(), CmdFault>
         Err(fault) => {
             let kind = refuse_list(store, At::Cell(cell), fault);
             settle(store, n, height, Err(kind))
+        }
+    }
+}
+
+// Adds the top text to the list in a cell, in place where it may be.
+fn append_word(store: &mut Store, cell: u64) -> Result<(), CmdFault>
+    requires cell { HasPlace store.old (Cell cell) }
+    requires height { 2 ≤ length store.old.stack }
+    ensures answer { VarAnswers (and_then (list_of (text_at store.old (Cell cell))) (λ ts.
+        both (list_text (ts ++ top 1 store.old.stack)))) (var.Cell cell) 2 store.old store.new result }
+    ensures object { OnOk result (AppendsTop store.old (Cell cell) store.new) }
+{
+    let height = store.height();
+    match store.list_append(At::Cell(cell)) {
+        Ok(()) => {
+            give_text(store, 1, cell);
+            Ok(())
+        }
+        Err(fault) => {
+            let kind = refuse_list(store, At::Cell(cell), fault);
+            settle(store, 2, height, Err(kind))
         }
     }
 }
@@ -102,9 +124,10 @@ fn add_words(store: &mut Store, cell: u64, is_set: bool, n: usize) -> Result<(),
     requires set { is_some (finite.get store.old.cells cell) ≡ is_set }
     requires words { 0 < n }
     requires height { n ≤ length store.old.stack }
-    ensures { VarAnswers (and_then (list_of (text_at store.old (Cell cell))) (λ ts.
+    ensures answer { VarAnswers (and_then (list_of (text_at store.old (Cell cell))) (λ ts.
         both (appended (text_at store.old (Cell cell)) (top (n - 1) store.old.stack) ts))) (var.Cell cell) n
         store.old store.new result }
+    ensures object { OnOk result (n ≡ 2 → IsTrue is_set → AppendsTop store.old (Cell cell) store.new) }
 {
     if !is_set {
         return make_list(store, cell, n);
@@ -112,17 +135,24 @@ fn add_words(store: &mut Store, cell: u64, is_set: bool, n: usize) -> Result<(),
     if n == 1 {
         return give_list(store, cell);
     }
+    if n == 2 {
+        return append_word(store, cell);
+    }
     append_words(store, cell, n)
 }
 
 /// `lappend varName ?value ...?`: adds the values to the list in the variable, whose text is the result. A
 /// variable that is not set counts as empty. Without values the text stays, but must be a list. Refuses a
 /// variable that can't be used as a value, and then a text that is no list. (Tcl: lappend(n).)
+///
+/// One value is added in place where the variable alone has its list: its object stays, and no counter
+/// rises unless the value is 50 deep. Where others have the list too, the variable gets a copy.
 pub fn cmd_lappend(store: &mut Store, variable: VarState, n: usize) -> Result<(), CmdFault>
     requires words { n + 1 ≤ length store.old.stack }
     requires named { HasName variable n }
-    ensures { VarAnswers (row_lappend (call_word n store.old.stack) (top n store.old.stack)
+    ensures answer { VarAnswers (row_lappend (call_word n store.old.stack) (top n store.old.stack)
         (variable_of variable store.old)) variable n store.old store.new result }
+    ensures object { OnOk result (n ≡ 2 → Appends variable store.old store.new) }
 {
     if n == 0 {
         return refuse_words(store, n, " varName ?value ...?");

@@ -6,11 +6,12 @@ use Rattle.tclv_text.specs.declared.numbers.WholeFault.TheVariants.{NotWhole, To
 use Rattle.tclv_text.specs.Characters.{is_space}
 use Rattle.tclv_text.specs.Lists.{ListFlaw, MissingBrace, MissingQuote, TextAfterBrace, TextAfterQuote}
 use Rattle.tclv_text.specs.Elements.{elements}
+use Rattle.tclv_text.specs.Pairs.{Pairs, PairsFlaw, NoList, MissingValue, pairs}
 use Rattle.tclv_text.specs.Indices.{index}
 use Rattle.tclv_text.specs.Numbers.{whole}
 use Rattle.tclv_model.specs.declared.data_commands.CmdFault.TheVariants.{Message}
 use Rattle.tclv_model.specs.declared.error_codes.ErrorCode.TheVariants.{NotNumber, Overflow}
-use Rattle.tclv_model.specs.declared.messages.MessageId.TheVariants.{UnmatchedOpenBrace, UnmatchedOpenQuote, NoSpaceAfterBraces, NoSpaceAfterQuotes, BadIndex, NotInteger, IntegerTooLarge}
+use Rattle.tclv_model.specs.declared.messages.MessageId.TheVariants.{UnmatchedOpenBrace, UnmatchedOpenQuote, NoSpaceAfterBraces, NoSpaceAfterQuotes, MissingDictValue, BadIndex, NotInteger, IntegerTooLarge}
 use Rattle.tclv_model.specs.ErrorCodes.{error_code}
 use Rattle.tclv_model.specs.Message.{text_of}
 use Rattle.tclv_model.specs.Rows.{Answer, Gives, Refuses, says}
@@ -32,6 +33,15 @@ list_read (Err flaw) = no_list flaw
 
 abbrev pub list_of : List ℕ → Answer (List (List ℕ))
 list_of t = list_read (elements t)
+
+-- the pairs of a text, or the message on its first flaw
+abbrev pub dict_read : Result Pairs PairsFlaw → Answer Pairs
+dict_read (Ok ps) = Gives ps
+dict_read (Err (NoList flaw)) = no_list flaw
+dict_read (Err MissingValue) = says MissingDictValue [] []
+
+abbrev pub dict_of : List ℕ → Answer Pairs
+dict_of t = dict_read (pairs t)
 
 -- the place that a text names where the length is len, or the message that it names none
 abbrev pub place_read : List ℕ → Result ℤ IndexFault → Answer ℤ

@@ -6,8 +6,8 @@ ghost use Rattle.std.specs.Str.{chars};
 ghost use Rattle.tclv_text.specs.Texts.{IsText};
 ghost use Rattle.tclv_model.specs.Usages.{usage_of};
 
-/// A command whose words can be of a wrong number. (`concat` and `list` take any, and `if` has
-/// messages of its own.)
+/// A command whose words can be of a wrong number. (`concat`, `list` and `return` take any, and `if`
+/// has messages of its own.)
 #[derive(Clone, Copy, Debug, PartialEq, Eq)]
 pub enum Usage {
     /// `append varName ?value ...?`
@@ -62,6 +62,8 @@ pub enum Usage {
     Lset,
     /// `lsort ?option ...? list`
     Lsort,
+    /// `proc name args body`
+    Proc,
     /// `puts ?-nonewline? ?channelId? string`
     Puts,
     /// `set varName ?newValue?`
@@ -70,6 +72,8 @@ pub enum Usage {
     Split,
     /// `switch ?option ...? string ?pattern body ...? ?default body?`
     Switch,
+    /// `try body ?handler ...? ?finally script?`
+    Try,
     /// `while test command`
     While,
 }
@@ -105,10 +109,12 @@ fn usage_line(usage: Usage) -> &'static str
         Usage::Lseq => " n ??op? n ??by? n??",
         Usage::Lset => " varName ?index ...? newValue",
         Usage::Lsort => " ?option ...? list",
+        Usage::Proc => " name args body",
         Usage::Puts => " ?-nonewline? ?channelId? string",
         Usage::Set => " varName ?newValue?",
         Usage::Split => " string ?splitChars?",
         Usage::Switch => " ?option ...? string ?pattern body ...? ?default body?",
+        Usage::Try => " body ?handler ...? ?finally script?",
         Usage::While => " test command",
     }
 }

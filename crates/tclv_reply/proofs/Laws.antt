@@ -16,7 +16,7 @@ pub use Rattle.tclv_reply.proofs.StackLemmas.{under_under, word_kept, words_step
 pub use Rattle.tclv_reply.proofs.MakingLemmas.{part_kept, words_part, list_pushed, leaves_list}
 pub use Rattle.tclv_reply.proofs.TextLemmas.{ascii_from_test, ascii_points, ascii_text, bytes_are, points_are}
 -- Lists and options.
-pub use Rattle.tclv_reply.proofs.ListLemmas.{list_known, get_some, no_elements}
+pub use Rattle.tclv_reply.proofs.ListLemmas.{list_known, given_read, get_some, get_none, no_elements}
 pub use Rattle.tclv_reply.proofs.OptionLemmas.{same_key, value_first, value_missing, word_first}
 pub use Rattle.tclv_reply.proofs.OptionSteps.{word_same, value_step, missing_step, word_step}
 -- Calls that are handed a variable.

@@ -1,9 +1,10 @@
 -- Laws of ASCII texts.
-use Rattle.std.proofs.Common.{◌≡◌, ℕ, zero, suc, true, List, [], ◌∷◌, ltb, sym, ap, ◌∙◌, arith}
+use Rattle.std.proofs.Common.{◌≡◌, ℕ, zero, suc, ◌<◌, true, ◌&&◌, List, [], ◌∷◌, ltb, refl, sym, ap, ◌∙◌, arith}
 use Rattle.std.specs.List.{list_all}
 use Rattle.std.specs.Char.{is_ascii}
 use Rattle.std.specs.Str.{chars, encode_utf8_all, IsAscii}
 use Rattle.std.proofs.lemmas.Bool.{and_parts, ltb-true}
+use Rattle.std.proofs.lemmas.Bool.Decides.{nat_tests}
 use Rattle.std.proofs.lemmas.Str.{chars-IsAscii, IsUtf8-from_ascii, encodes-chars}
 use Rattle.tclv_text.specs.Texts.{IsText}
 
@@ -26,3 +27,11 @@ module _ (bs t : List ℕ) (h : IsText bs × (chars bs ≡ t)) where
 
   pub points_are : chars (encode_utf8_all t) ≡ t
   points_are = ap chars bytes_are ∙ h.1
+
+-- each byte is ASCII
+below : (c : ℕ) → c < 128 → is_ascii c ≡ true
+below c h = grind (arith, nat_tests)
+
+pub all_ascii : (bs : List ℕ) → IsAscii bs → list_all is_ascii bs ≡ true
+all_ascii [] h = refl
+all_ascii (b ∷ bs) h = ap (λ x. x && list_all is_ascii bs) (below b (h 0)) ∙ all_ascii bs (λ i. h (suc i))

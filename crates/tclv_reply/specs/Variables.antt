@@ -1,13 +1,14 @@
 -- The variable that a command is handed: its text, and its refusals.
-use Rattle.std.specs.Prelude.{◌≡◌, ℕ, ◌-◌, Bool, ◌&&◌, ◌==◌, if◌then◌else◌, List, [], ◌∷◌, length, slice_index, Option, Some, None, is_some, codes, encode_utf8_all}
+use Rattle.std.specs.Prelude.{◌≡◌, ℕ, ◌-◌, Bool, ◌&&◌, ◌==◌, if◌then◌else◌, List, [], length, slice_index, Option, Some, None, is_some, encode_utf8_all}
 use Rattle.std.specs.List.{list_any}
 use Rattle.std.specs.Ordering.{nat_cmp}
 use Rattle.std.specs.FinMap.{FinMap, get}
-use Rattle.tclv_text.specs.Quotes.{list_text}
 use Rattle.tclv_model.specs.declared.data_commands.CmdFault.TheVariants.{Message}
 use Rattle.tclv_model.specs.declared.data_commands.VarState.{VarState}
 use Rattle.tclv_model.specs.declared.data_commands.VarState.TheVariants as var
+use Rattle.tclv_model.specs.declared.error_codes.ErrorCode.TheVariants.{UnknownVariable}
 use Rattle.tclv_model.specs.declared.messages.MessageId.TheVariants.{NoSuchVariable, NoSuchElement, CannotReadArray, CannotReadNonArray, NoParentNamespace}
+use Rattle.tclv_model.specs.ErrorCodes.{error_code}
 use Rattle.tclv_model.specs.Message.{text_of}
 use Rattle.tclv_model.specs.Rows.{Answer, VarAnswer, Gives, Refuses, Variable, Holds, Unset, WholeArray, PlainElement, Homeless, and_then, says}
 
@@ -35,13 +36,9 @@ pub record IsVariable (variable : VarState) (cells : FinMap nat_cmp (List ℕ)) 
   pub is : value ≡ get cells x.0
   pub set : is_some value ≡ x.1
 
--- the elements of the error code of a variable that isn't set
-abbrev pub unset_code : List ℕ → List (List ℕ)
-unset_code name = codes "TCL" ∷ codes "LOOKUP" ∷ codes "VARNAME" ∷ name ∷ []
-
 -- the refusal of a variable that isn't set
 abbrev pub not_set : {A : Type 0} → List ℕ → Answer A
-not_set name = if is_element_name name then says NoSuchElement name [] else Refuses Message (text_of NoSuchVariable name []) (list_text (unset_code name))
+not_set name = if is_element_name name then says NoSuchElement name [] else Refuses Message (text_of NoSuchVariable name []) (error_code UnknownVariable name)
 
 -- the text of a variable that must be set
 abbrev pub set_value : List ℕ → Option (List ℕ) → Answer (List ℕ)

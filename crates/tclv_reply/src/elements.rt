@@ -1,15 +1,19 @@
-// The elements of a list, read once.
-ghost use Rattle.std.specs.Prelude.{◌≡◌, ◌<◌, ◌≤◌, [], length, IfErr, slice_index_or};
+// The elements of a list, taken by their places.
+ghost use Rattle.std.specs.Prelude.{◌≡◌, ◌<◌, ◌≤◌, ◌++◌, [], ℕ, List, length, Ok, OnOk, IfOk, IfErr, IsOkAnd, option_to_list, slice_get, slice_index_or};
+ghost use Rattle.tclv_text.specs.Elements.{elements};
+ghost use Rattle.tclv_value.specs.Changes.{KeepsTexts};
+ghost use Rattle.tclv_value.specs.Lists.{RefusesList};
 ghost use Rattle.tclv_value.specs.View.{HasPlace, text_at, KeepsMade};
+ghost use Rattle.tclv_value.specs.ListObjects.{IsElementMade};
 ghost use Rattle.tclv_model.specs.Values.{list_of};
-ghost use Rattle.tclv_reply.specs.Replies.{IsRefused, Reads, Unpacks, left_over};
+ghost use Rattle.tclv_reply.specs.Replies.{Grows, IsRefused, Reads, Refused, Unpacks, left_over};
 
-use crate::replies::{cut, push_all};
-use crate::values::refuse_list;
+use crate::replies::cut;
+use crate::values::{list_len, refuse_list};
 use std::marker::Model;
 use tclv_model::CmdFault;
-use tclv_text::Text;
-use tclv_value::{At, Store};
+use tclv_text::{NoMemory, Text};
+use tclv_value::{At, Store, ValueFault};
 
 /// The elements of a list, from the left.
 #[derive(Drop)]
@@ -48,6 +52,59 @@ fn refused(store: &mut Store, height: usize, kind: CmdFault) -> CmdFault
     kind
 }
 
+// Adds a copy of the text of an element of a list, which is there and made, to others.
+fn add_copy(store: &Store, list: At, k: u64, items: &mut Vec<Text>) -> Result<(), NoMemory>
+    requires place { HasPlace store.now list }
+    requires made { IsElementMade store.now list k }
+    ensures { OnOk result (IsOkAnd (elements (text_at store.now list)) (λ ts.
+        items.new.items ≡ items.old.items ++ option_to_list (slice_get ts k))) }
+{
+    match store.element_text(list, k) {
+        Some(text) => {
+            let copy = Vec::from_slice(store.allocator(), text)?;
+            items.push(Text::new(copy))?;
+            Ok(())
+        }
+        None => unreachable!(),
+    }
+}
+
+// Adds a copy of the text of an element of a list to others, if the list has one of this number. No text
+// of the store changes.
+fn read_element(
+    store: &mut Store,
+    list: At,
+    k: u64,
+    items: &mut Vec<Text>,
+) -> Result<(), ValueFault>
+    requires { HasPlace store.old list }
+    ensures added { OnOk result (IsOkAnd (elements (text_at store.old list)) (λ ts.
+        items.new.items ≡ items.old.items ++ option_to_list (slice_get ts k))) }
+    ensures refused { IfErr result (λ fault. RefusesList fault (text_at store.old list)) }
+    ensures kept { KeepsTexts store.old store.new }
+{
+    let found = store.make_element(list, k)?;
+    if found {
+        add_copy(store, list, k, items)?;
+    }
+    Ok(())
+}
+
+// Copies of the texts of a list's elements, from the left. No text of the store changes.
+fn read_elements(store: &mut Store, list: At) -> Result<Vec<Text>, ValueFault>
+    requires { HasPlace store.old list }
+    ensures elements { IfOk result (λ ts. elements (text_at store.old list) ≡ Ok ts.items) }
+    ensures refused { IfErr result (λ fault. RefusesList fault (text_at store.old list)) }
+    ensures kept { KeepsTexts store.old store.new }
+{
+    let len = store.list_len(list)?;
+    let mut items = Vec::new(store.allocator());
+    for k in 0..len {
+        read_element(store, list, k, &mut items)?;
+    }
+    Ok(items)
+}
+
 /// The elements of the list that the text of a place is, from the left. No text of the store changes.
 ///
 /// `Message` comes exactly where the text is no list: the message on its first fault and the error
@@ -59,7 +116,7 @@ pub fn list_elements(store: &mut Store, list: At) -> Result<Elements, CmdFault>
         IsRefused (list_of (text_at store.old list)) kind 0 store.old store.new) }
 {
     let height = store.height();
-    match store.elements_at(list) {
+    match read_elements(store, list) {
         Ok(items) => Ok(Elements { items }),
         Err(fault) => {
             let kind = refuse_list(store, list, fault);
@@ -76,13 +133,30 @@ pub fn elements_of(store: &mut Store, list: usize) -> Result<Elements, CmdFault>
     list_elements(store, At::Stack(list))
 }
 
-/// Pushes the elements of the list that the text of a place is, from the left. Where the text is no
-/// list, the message and the error code are pushed.
+// Pushes an element of a list, if it has one of this number.
+fn push_element(store: &mut Store, list: At, k: u64) -> Result<(), CmdFault>
+    requires { HasPlace store.old list }
+    ensures grows { Grows store.old store.new }
+    ensures pushed { OnOk result (IsOkAnd (elements (text_at store.old list)) (λ ts.
+        store.new.stack ≡ store.old.stack ++ option_to_list (slice_get ts k))) }
+    ensures refused { IfErr result (λ kind. Refused {A = List (List ℕ)} (list_of (text_at store.old list)) kind
+        store.old.stack store.new.stack) }
+{
+    match store.push_element(list, k) {
+        Ok(_found) => Ok(()),
+        Err(fault) => Err(refuse_list(store, list, fault)),
+    }
+}
+
+/// Pushes the elements of the list that the text of a place is, from the left. They are shared and
+/// not copied. Where the text is no list, the message and the error code are pushed.
 pub fn push_elements(store: &mut Store, list: At) -> Result<(), CmdFault>
     requires { HasPlace store.old list }
     ensures { Unpacks (text_at store.old list) store.old store.new result }
 {
-    let elements = list_elements(store, list)?;
-    push_all(store, elements.all())?;
+    let len = list_len(store, list)?;
+    for k in 0..len {
+        push_element(store, list, k)?;
+    }
     Ok(())
 }

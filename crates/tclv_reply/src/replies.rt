@@ -14,6 +14,7 @@ ghost use Rattle.tclv_value.specs.Changes.{KeepsTexts, Pushes};
 ghost use Rattle.tclv_reply.specs.Replies.{call_word, Answers, Grows, Refused, Tells, left_count, gathered, Settles};
 
 use crate::words::{make_word, word_at};
+use itoa::Buffer;
 use tclv_model::{CmdFault, MessageId, message};
 use tclv_text::{NoMemory, Text};
 use tclv_value::{At, Store};
@@ -265,14 +266,14 @@ pub fn push_number(store: &mut Store, n: i64) -> Result<(), NoMemory>
     store.push_whole(n)
 }
 
-/// Pushes the decimal text of a count. One past the numbers of 64 bits is want of memory.
+/// Pushes the decimal text of a count. One that fits 64 bits with a sign is kept as a number.
 pub fn push_count(store: &mut Store, count: u64) -> Result<(), NoMemory>
     ensures pushed { OnOk result (Pushes store.old (whole_text (pos count)) store.new) }
     ensures kept { OnErr result (KeepsTexts store.old store.new) }
 {
     match i64::try_from(count) {
         Ok(n) => push_number(store, n),
-        Err(_) => Err(NoMemory),
+        Err(_) => push_ascii(store, Buffer::new().format(count)),
     }
 }
 

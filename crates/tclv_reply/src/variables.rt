@@ -1,18 +1,20 @@
 // The variable that a command is handed.
-ghost use Rattle.std.specs.Prelude.{◌≡◌, ◌∷◌, ℕ, ◌-◌, ◌<◌, ◌≤◌, [], ◌++◌, length, take, List, OnOk, slice_index_or};
+ghost use Rattle.std.specs.Prelude.{◌≡◌, ◌∷◌, ℕ, ◌-◌, ◌<◌, ◌≤◌, [], ◌++◌, length, take, List, OnOk, IfOk, slice_index_or};
+ghost use Rattle.tclv_model.specs.ErrorCodes.{error_code};
 ghost use Rattle.tclv_model.specs.Message.{text_of};
+ghost use Rattle.tclv_model.specs.declared.error_codes.ErrorCode.TheVariants.{UnknownVariable};
 ghost use Rattle.tclv_model.specs.declared.messages.MessageId.TheVariants.{NoSuchVariable};
-ghost use Rattle.tclv_text.specs.Quotes.{list_text};
 ghost use Rattle.tclv_value.specs.View.{HasPlace, text_at, IsMade};
+ghost use Rattle.tclv_value.specs.ListObjects.{KeepsCells};
 ghost use Rattle.tclv_value.specs.declared.places.At.TheVariants.{Stack, Cell};
 ghost use Rattle.tclv_model.specs.declared.data_commands.CmdFault.TheVariants.{Message};
 ghost use Rattle.tclv_reply.specs.Replies.{Grows, Refused, Tells, Reads, HasName, variable_of};
-ghost use Rattle.tclv_reply.specs.Variables.{value_of, IsVariable, has_open, is_element, is_element_name, unset_code, not_set, text_of_set, IsSet};
+ghost use Rattle.tclv_reply.specs.Variables.{value_of, IsVariable, has_open, is_element, is_element_name, not_set, text_of_set, IsSet};
 
-use crate::replies::{push_ascii, push_message_on, push_word, refuse_on};
+use crate::replies::{push_bytes, push_message_on, refuse_on};
 use crate::words::{make_word, word_at};
-use tclv_model::{CmdFault, MessageId, VarState};
-use tclv_text::NoMemory;
+use tclv_model::{CmdFault, ErrorCode, MessageId, VarState, code_text};
+use tclv_text::{NoMemory, Text};
 use tclv_value::{At, Store};
 
 /// The cell of a variable, whose name is a word, and whether it is set.
@@ -23,8 +25,9 @@ pub fn read_variable(
 ) -> Result<(u64, bool), CmdFault>
     requires place { name < length store.old.stack }
     requires named { HasName variable 1 }
-    ensures { Reads (value_of (slice_index_or store.old.stack name []) (variable_of variable store.old))
+    ensures reads { Reads (value_of (slice_index_or store.old.stack name []) (variable_of variable store.old))
         (IsVariable variable store.old.cells) store.old store.new result }
+    ensures unchanged { OnOk result (store.new ≡ store.old) }
 {
     match variable {
         VarState::NoName => unreachable!(),
@@ -61,51 +64,41 @@ fn names_element(store: &Store, name: usize) -> bool
     is_element(word_at(store, name))
 }
 
-// Pushes the elements of the error code of a variable that isn't set.
-fn push_code_words(store: &mut Store, name: usize) -> Result<(), NoMemory>
-    requires { name < length store.old.stack }
-    ensures grows { Grows store.old store.new }
-    ensures pushed { OnOk result (store.new.stack ≡
-        store.old.stack ++ unset_code (slice_index_or store.old.stack name [])) }
+// The error code of a variable that isn't set, whose name, a word, is made.
+fn unset_code(store: &Store, name: usize) -> Result<Text, NoMemory>
+    requires place { name < length store.now.stack }
+    requires made { IsMade store.now (Stack name) }
+    ensures { IfOk result (λ code. code ≡ error_code UnknownVariable (slice_index_or store.now.stack name [])) }
 {
-    push_ascii(store, "TCL")?;
-    push_ascii(store, "LOOKUP")?;
-    push_ascii(store, "VARNAME")?;
-    push_word(store, name)?;
-    Ok(())
+    code_text(
+        store.allocator(),
+        ErrorCode::UnknownVariable,
+        word_at(store, name),
+    )
 }
 
-// Pushes that code.
-fn push_unset_code(store: &mut Store, name: usize) -> Result<(), NoMemory>
-    requires { name < length store.old.stack }
-    ensures grows { Grows store.old store.new }
-    ensures pushed { OnOk result (store.new.stack ≡
-        store.old.stack ++ list_text (unset_code (slice_index_or store.old.stack name [])) ∷ []) }
-{
-    push_code_words(store, name)?;
-    store.push_list(4)?;
-    Ok(())
-}
-
-// Pushes the message and the code of a variable that isn't set.
+// Pushes the message and the code of a variable that isn't set, whose name, a word, is made.
 fn push_unset(store: &mut Store, name: usize) -> Result<(), NoMemory>
-    requires { name < length store.old.stack }
+    requires place { name < length store.old.stack }
+    requires made { IsMade store.old (Stack name) }
     ensures grows { Grows store.old store.new }
     ensures pushed { OnOk result (store.new.stack ≡ store.old.stack ++
         (text_of NoSuchVariable (slice_index_or store.old.stack name []) []
-        ∷ list_text (unset_code (slice_index_or store.old.stack name [])) ∷ [])) }
+        ∷ error_code UnknownVariable (slice_index_or store.old.stack name []) ∷ [])) }
 {
+    let code = unset_code(store, name)?;
     push_message_on(store, MessageId::NoSuchVariable, name, "")?;
-    push_unset_code(store, name)?;
+    push_bytes(store, code.bytes())?;
     Ok(())
 }
 
-// Refuses a variable that isn't set and is no element.
+// Refuses a variable that isn't set and is no element. Its name, a word, is made.
 fn refuse_plain(store: &mut Store, name: usize) -> CmdFault
-    requires { name < length store.old.stack }
+    requires place { name < length store.old.stack }
+    requires made { IsMade store.old (Stack name) }
     ensures grows { Grows store.old store.new }
     ensures tells { Tells Message result (text_of NoSuchVariable (slice_index_or store.old.stack name []) []
-        ∷ list_text (unset_code (slice_index_or store.old.stack name [])) ∷ []) store.old.stack store.new.stack }
+        ∷ error_code UnknownVariable (slice_index_or store.old.stack name []) ∷ []) store.old.stack store.new.stack }
 {
     match push_unset(store, name) {
         Ok(()) => CmdFault::Message,
@@ -154,13 +147,15 @@ pub fn set_cell(store: &mut Store, variable: VarState, name: usize) -> Result<u6
     Ok(cell)
 }
 
-/// Ends a call whose variable got its new text: the text is the result.
+/// Ends a call whose variable got its new text: the text is the result. It is shared and not copied, and no
+/// cell gets another object.
 pub fn give_text(store: &mut Store, n: usize, cell: u64)
     requires cell { HasPlace store.old (Cell cell) }
     requires words { 0 < n }
     requires height { n ≤ length store.old.stack }
     ensures stack { store.new.stack ≡ take (length store.old.stack - n) store.old.stack ++ text_at store.old (Cell cell) ∷ [] }
     ensures cells { store.new.cells ≡ store.old.cells }
+    ensures objects { KeepsCells store.old store.new }
 {
     let base = store.height() - n;
     store.copy_over(At::Cell(cell), base);

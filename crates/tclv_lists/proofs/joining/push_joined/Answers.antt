@@ -1,4 +1,5 @@
-use Rattle.std.proofs.Common.{ℕ, List, [], length, get_or, ap, sym, refl, ◌∙◌, arith}
+use Rattle.std.proofs.Common.{ℕ, List, [], length, get_or, ap, sym, subst, refl, ◌∙◌, arith}
+use Rattle.std.specs.Prelude.{IsOk}
 use Rattle.tclv_value.specs.declared.places.At.TheVariants.{Stack}
 use Rattle.std.specs.Str.{chars}
 use Rattle.tclv_text.specs.Elements.{elements}
@@ -13,6 +14,16 @@ pub joined_text-requires-clause-list_made : goal.joined_text-requires-clause-lis
 joined_text-requires-clause-list_made c =
     let same = c.in_ok-make_word.ensures.kept.stack ∙ c.in_ok-list_len.ensures.kept in
     c.in_ok-make_word-2.ensures.kept.stays (Stack c.args.list) (omega (arith, ap length same, c.requires.list)) c.in_ok-make_word.ensures.made
+
+pub joined_text-requires-clause-elements : goal.joined_text-requires-clause-elements
+joined_text-requires-clause-elements c =
+    let old = c.args.store.now in
+    let l = get_or old.stack c.args.list [] in
+    let s = get_or old.stack c.args.separator [] in
+    let f : List (List ℕ) → RowAnswer = λ ts. Gives (joined s ts) in
+    let r = read_on (list_of l) f (begun (joined_of l s) old) (list_of l) refl c.in_ok-list_len.ensures in
+    let w = went_kept (went_kept r.went c.in_ok-make_word.ensures.kept) c.in_ok-make_word-2.ensures.kept in
+    subst IsOk (sym (ap (λ (q : List (List ℕ)). elements (get_or q c.args.list [])) w.same ∙ elements_given (elements l) r.value r.given)) refl
 
 pub returns : goal.returns
 returns c =

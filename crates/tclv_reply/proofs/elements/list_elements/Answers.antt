@@ -7,7 +7,7 @@ use Rattle.tclv_reply.proofs.elements.list_elements.Goals as goal
 pub returns-in-Err-clause-reads : goal.returns-in-Err-clause-reads
 returns-in-Err-clause-reads c =
     let old = c.args.store.now in
-    let one = c.elements_at.new.self in
+    let one = c.read_elements.new.store in
     let mid = c.refuse_list-kind.new.store in
     let kept = c.in-Err.ensures.kept in
     let kind = c.refuse_list-kind.result in
