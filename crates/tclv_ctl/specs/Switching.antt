@@ -6,6 +6,8 @@ use Rattle.tclv_text.specs.Globs.{matches}
 use Rattle.tclv_model.specs.declared.data_commands.CmdFault.{CmdFault}
 use Rattle.tclv_model.specs.declared.messages.MessageId.TheVariants.{BadOption, SwitchPatternWithoutBody, NoBodyForPattern}
 use Rattle.tclv_model.specs.Rows.{Answer, Gives, Refuses, and_then, says, wrong_count}
+use Rattle.tclv_model.specs.Usages.{usage_of}
+use Rattle.tclv_model.specs.declared.usages.Usage.TheVariants as usages
 use Rattle.tclv_model.specs.Values.{list_of}
 use Rattle.tclv_value.specs.View.{View}
 use Rattle.tclv_value.specs.Changes.{KeepsTexts}
@@ -120,7 +122,7 @@ pushed_for (Refuses kind message code) = []
 -- ---- the row
 
 abbrev pub usage : Text
-usage = codes " ?option ...? string ?pattern body ...? ?default body?"
+usage = usage_of usages.Switch
 
 -- what the words from the string on ask for, which are at least two
 abbrev pub choice : Text → Manner → List Text → Answer Choice
