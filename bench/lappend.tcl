@@ -1,6 +1,6 @@
 # A list that grows element by element.
 set list {}
-for {set i 0} {$i < 4000} {incr i} {
+for {set i 0} {$i < 200000} {incr i} {
     lappend list $i
 }
 puts [llength $list]
