@@ -12,3 +12,4 @@ pub mod StartLemmas
 pub mod WholeLemmas
 pub mod LevelLemmas
 pub mod MissLemmas
+pub mod FlatLemmas

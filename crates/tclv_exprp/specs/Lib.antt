@@ -8,3 +8,4 @@ pub mod Outcomes
 pub mod ExpressionGrammar
 pub mod Levels
 pub mod OperandFaults
+pub mod Flat

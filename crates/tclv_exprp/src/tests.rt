@@ -1,6 +1,7 @@
-// Operators at their edges.
+// Operators at their edges, and an expression as instructions.
 
-use crate::{Op1, Op2, OpFault, apply1, apply2};
+use crate::{Instruction, Op1, Op2, OpFault, apply1, apply2, parse_instructions};
+use std::alloc::Global;
 use std::test::Fail;
 
 /// An operator of two numbers, the numbers, and what it must give.
@@ -51,5 +52,20 @@ fn one_number(rt: HostRuntime) -> Result<(), Fail> {
     assert_eq!(rt; apply1(Op1::Plus, -3), Ok(-3));
     assert_eq!(rt; apply1(Op1::Invert, 0), Ok(-1));
     assert_eq!(rt; apply1(Op1::Not, 5), Ok(0));
+    Ok(())
+}
+
+/// Whether a text has five instructions, and the second passes over two where the operand before it
+/// is false.
+fn passes_over_two(alloc: Global, text: &str) -> bool {
+    let Ok(laid) = parse_instructions(alloc, text.as_bytes()) else {
+        return false;
+    };
+    laid.len() == 5 && matches!(laid.get(1), Some(Instruction::SkipIf(false, 2)))
+}
+
+#[test]
+fn a_decided_operand_is_passed_over(rt: HostRuntime) -> Result<(), Fail> {
+    assert!(rt; passes_over_two(rt.alloc(), "1 && 2"));
     Ok(())
 }
