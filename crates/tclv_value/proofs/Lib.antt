@@ -19,8 +19,10 @@ pub mod SwapLemmas
 pub mod SetLemmas
 pub mod SetChangeLemmas
 pub mod SetPlaceLemmas
+pub mod WayLemmas
 pub mod DropLemmas
 pub mod SetOneLemmas
+pub mod WayPlaceLemmas
 pub mod LeftoverLemmas
 pub mod CallerLemmas
 pub mod ElementLemmas

@@ -1,5 +1,5 @@
 -- A list object where one element is set: the value gets a holder more, and the element that was there loses one.
-use Rattle.std.proofs.Common.{◌≡◌, ◌≢◌, ℕ, ◌<◌, inl, inr, List, [], ◌∷◌, ◌++◌, map, length, Option, Some, None, Ok, IsSome, is_some, refl, sym, ap, subst, ◌∙◌, arith}
+use Rattle.std.proofs.Common.{◌≡◌, ◌≢◌, ℕ, ◌<◌, ◌+◌, max, inl, inr, List, [], ◌∷◌, ◌++◌, map, length, Option, Some, None, Ok, IsSome, is_some, refl, sym, ap, subst, ◌∙◌, arith}
 use Rattle.std.specs.Prelude.{IfSome, IsOkAnd}
 use Rattle.std.proofs.lemmas.List.{length-map}
 use Rattle.tclv_text.specs.Elements.{elements}
@@ -7,16 +7,17 @@ use Rattle.std.specs.Option.{option_to_list, unwrap_or}
 use Rattle.std.proofs.lemmas.Bool.{cases_eq}
 use Rattle.tclv_text.specs.Quotes.{list_text}
 use Rattle.tclv_heap.specs.declared.ids.Object.{Object}
-use Rattle.tclv_heap.specs.Graph.{at, occurs, holds, form_parts, form_in, text_in, count_in, counted_up, Updates, HasOutside}
+use Rattle.tclv_heap.specs.Graph.{at, occurs, holds, form_parts, form_in, text_in, count_in, depth_in, counted_up, Updates, HasOutside}
 use Rattle.tclv_heap.specs.Dying.{Releases}
 use Rattle.tclv_heap.specs.Holders.{Holders, Passes}
-use Rattle.tclv_heap.specs.Stands.{Keeps, IsClosed, IsSound, depth_of}
+use Rattle.tclv_heap.specs.Stands.{Keeps, IsClosed, IsSound, depth_of, depth_for}
 use Rattle.tclv_value.specs.Appending.{CanAppend, CopiesList}
 use Rattle.tclv_value.specs.Forms.{form_table, parts_of}
 use Rattle.tclv_value.specs.Kept.{list_in, list_at, IsOutside}
 use Rattle.tclv_value.specs.Paths.{put_at}
 use Rattle.tclv_value.specs.Places.{text_of}
 use Rattle.tclv_value.specs.Setting.{CanChange, ListChanged, MakesList, LetsGo, SetsElement, text_with}
+use Rattle.tclv_value.specs.Ways.{LeavesOthers}
 use Rattle.tclv_value.specs.declared.forms.Form.{Form}
 use Rattle.tclv_value.specs.declared.forms.Form.TheVariants as form
 use Rattle.tclv_value.proofs.LeadLemmas.{holds_le_held}
@@ -33,6 +34,8 @@ lets_none g sound = record {
   there = λ o is. is;
   forms = λ o is. refl;
   made = λ o is. refl;
+  depths = λ o is. refl;
+  alone = λ o is one. one;
 }
 
 pub lets_one : (g h : G) (p : ℕ) → Releases form_table.parts g (p ∷ []) h → Passes form_table.parts g (p ∷ []) h [] → Keeps form_table g h → LetsGo g (Some p) h
@@ -44,10 +47,14 @@ lets_one g h p released passes keeps =
       there = was;
       forms = λ o is. by_slot _ (at h o) (λ e. absurd (no_object h o e is)) (λ n e. let k = released.kept o n e in ap form_in e ∙ k.2.form ∙ sym (ap form_in k.1));
       made = λ o is. (still_released g h (p ∷ []) released keeps).made o (was o is) is;
+      depths = λ o is. by_slot _ (at h o) (λ e. absurd (no_object h o e is)) (λ n e. let k = released.kept o n e in ap depth_of e ∙ ap (λ t. depth_for t n.depth) k.2.text ∙ ap (depth_for k.0.text) k.2.depth ∙ sym (ap depth_of k.1));
+      alone = λ o is one. by_slot _ (at h o) (λ e. absurd (no_object h o e is)) (λ n e.
+          let k = released.kept o n e in
+          omega (arith, ap count_in e, k.2.lower, ap count_in k.1, one, (keeps.sound.sound.counts o n e).0));
     }
 
 -- the elements of a list are there
-form_ids : (f : Option Form) (ids : List ℕ) → list_in f ≡ Some ids → form_parts parts_of f ≡ ids
+pub form_ids : (f : Option Form) (ids : List ℕ) → list_in f ≡ Some ids → form_parts parts_of f ≡ ids
 form_ids None ids is = absurd (cc)
 form_ids (Some (form.Whole n)) ids is = absurd (cc)
 form_ids (Some (form.List items)) ids is = cc
@@ -172,6 +179,16 @@ module _ (g a : G) (id place value : ℕ) (can : CanChange g id value) (shared :
         made = λ x ne was is. lets.made x is ∙ ap (λ s. is_some (text_in s)) (sets.others x ne) ∙ (still_shared g a value value_in shared keeps_a).made x was (in_a x was);
         sound = lets.keeps.sound;
         closed = lets.keeps.closed sets.closed;
+      }
+
+      pub around : depth_of (at b id) ≡ max (depth_in (at a id)) (depth_of (at a value) + 1) → LeavesOthers g id value d
+      around deep = record {
+        deep =
+            lets.depths id here_d ∙ deep ∙ ap (λ s. max (depth_in s) (depth_of (at a value) + 1)) (shared_other g a value value_in shared id (λ e. can.apart (sym e)))
+            ∙ ap (λ s. max (depth_in (at g id)) (s + 1)) (shared_depth g a value value_in shared value);
+        forms = λ x ne is. lets.forms x is ∙ ap form_in (sets.others x ne) ∙ shared_form g a value value_in shared x;
+        depths = λ x ne is. lets.depths x is ∙ ap depth_of (sets.others x ne) ∙ shared_depth g a value value_in shared x;
+        alone = λ x ne nv is one. lets.alone x is (ap count_in (sets.others x ne ∙ shared_other g a value value_in shared x nv) ∙ one);
       }
 
 -- a copy of a list object, where one element is set

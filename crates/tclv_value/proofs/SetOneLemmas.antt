@@ -51,7 +51,7 @@ pub place_same : (a b : View) (p : At) → KeepsTexts a b → HasPlace a p → H
 place_same a b (Stack i) k is = omega (arith, is, ap length k.stack)
 place_same a b (Cell c) k is = subst (λ m. IsSome (get m c)) (sym k.cells) is
 
-under_same : (a b : View) (n : ℕ) (p : At) → KeepsTexts a b → IsUnder a n p → IsUnder b n p
+pub under_same : (a b : View) (n : ℕ) (p : At) → KeepsTexts a b → IsUnder a n p → IsUnder b n p
 under_same a b n (Stack i) k is = omega (arith, is, ap length k.stack)
 under_same a b n (Cell c) k is = (omega (arith, is.0, ap length k.stack), subst (λ m. IsSome (get m c)) (sym k.cells) is.1)
 
@@ -77,7 +77,7 @@ put_len : (stack : List (List ℕ)) (at : At) (t : List ℕ) → length (stack_p
 put_len stack (Stack i) t = length-set (under 0 stack) i t ∙ ap length (take_all (length stack - 0) stack (omega arith))
 put_len stack (Cell c) t = ap length (take_all (length stack - 0) stack (omega arith))
 
-put_under : (a d : View) (n : ℕ) (at : At) (t : List ℕ) → IsUnder a n at → Puts a 0 at t d → IsUnder d n at
+pub put_under : (a d : View) (n : ℕ) (at : At) (t : List ℕ) → IsUnder a n at → Puts a 0 at t d → IsUnder d n at
 put_under a d n (Stack i) t is puts = omega (arith, is, ap length puts.stack, put_len a.stack (Stack i) t)
 put_under a d n (Cell c) t is puts = (omega (arith, is.0, ap length puts.stack, put_len a.stack (Cell c) t), put_there a.cells d.cells c t puts.cells)
 

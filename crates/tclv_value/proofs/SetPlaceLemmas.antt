@@ -73,22 +73,22 @@ module _ (g : G) {st : Stats} (ids : List ℕ) (es : List (ℕ × ℕ)) (value i
   top_id : id_at ids es (Stack (length v.stack - 1)) ≡ value
   top_id = ap (λ n. get_or ids (n - 1) 0) len ∙ sym value_is
 
-  listed_id : 0 < occurs id (places ids es)
+  pub listed_id : 0 < occurs id (places ids es)
   listed_id = subst (λ o. 0 < occurs o (places ids es)) (sym id_is) (id_listed ids es place has)
 
-  listed_value : 0 < occurs value (places ids es)
+  pub listed_value : 0 < occurs value (places ids es)
   listed_value = subst (λ o. 0 < occurs o (places ids es)) top_id (id_listed ids es (Stack (length v.stack - 1)) has_top)
 
   pub outside_value : IsOutside g value
   outside_value = record { ids = places ids es; holders = placed.holders; listed = listed_value }
 
-  id_view : id_of v place ≡ id
+  pub id_view : id_of v place ≡ id
   id_view = ap (λ w. id_of w place) (sym view) ∙ id_of_is g st ids es place ∙ sym id_is
 
-  graph_is : v.graph ≡ g
+  pub graph_is : v.graph ≡ g
   graph_is = ap (λ (x : View). x.graph) (sym view)
 
-  value_view : id_of v (Stack (length v.stack - 1)) ≡ value
+  pub value_view : id_of v (Stack (length v.stack - 1)) ≡ value
   value_view = ap (λ w. id_of w (Stack (length v.stack - 1))) (sym view) ∙ top_id
 
   pub list_here : IsListAt v place → IsSome (list_at g id)
@@ -103,7 +103,7 @@ module _ (g : G) {st : Stats} (ids : List ℕ) (es : List (ℕ × ℕ)) (value i
   pub text_here : text_at v place ≡ text_of g id
   text_here = ap (λ w. text_at w place) (sym view) ∙ text_is g st ids es place has ∙ ap (text_of g) (sym id_is)
 
-  value_text : text_at v (Stack (length v.stack - 1)) ≡ text_of g value
+  pub value_text : text_at v (Stack (length v.stack - 1)) ≡ text_of g value
   value_text = ap (λ w. text_at w (Stack (length v.stack - 1))) (sym view) ∙ text_is g st ids es (Stack (length v.stack - 1)) has_top ∙ ap (text_of g) top_id
 
   pub within_here : (P : List (List ℕ) → Type 0) → IsOkAnd (elements (text_at v place)) P → IsOkAnd (elements (text_of g id)) P
@@ -124,8 +124,11 @@ module _ (g : G) {st : Stats} (ids : List ℕ) (es : List (ℕ × ℕ)) (value i
         sym (placed.holders.counted id n e (λ s. omega (arith, one, s))) ∙ one)
 
     -- no other place has the object
-    sole : (p : At) → p ≢ place → HasId ids es p → id_at ids es p ≢ id
+    pub sole : (p : At) → p ≢ place → HasId ids es p → id_at ids es p ≢ id
     sole p ne is e = omega (arith, counted, two_places ids es p place id ne is has e (sym id_is))
+
+    pub apart_here : value ≢ id
+    apart_here e = sole (Stack (length v.stack - 1)) (λ x. not_top v place room (sym x)) has_top (top_id ∙ e)
 
     pub can_change : IsListAt v place → depth_at v (Stack (length v.stack - 1)) < deepest → CanChange g id value
     can_change list shallow = record {

@@ -27,6 +27,13 @@ pub record KeepsTexts (old new : View) : Type 0 where
   pub cells : new.cells ≡ old.cells
   pub stays : StaysMade old new
 
+-- Some texts more stand on the stack. All that was there stays as it was.
+pub record Grows (old new : View) : Type 0 where
+  pub more : List (List ℕ)
+  pub stack : new.stack ≡ old.stack ++ more
+  pub cells : new.cells ≡ old.cells
+  pub stays : StaysMade old new
+
 -- The text t is pushed. All that was there stays as it was.
 pub record Pushes (old : View) (t : List ℕ) (new : View) : Type 0 where
   pub stack : new.stack ≡ old.stack ++ t ∷ []

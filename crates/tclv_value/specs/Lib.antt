@@ -16,5 +16,6 @@ pub mod Stacks
 pub mod ListCommands
 pub mod ListObjects
 pub mod Setting
+pub mod Ways
 pub mod SetObjects
 pub mod Leftovers

@@ -102,6 +102,8 @@ pub record LetsGo (old : Graph Form) (gone : Option ℕ) (new : Graph Form) : Ty
   pub there : (o : ℕ) → IsSome (at new o) → IsSome (at old o)
   pub forms : (o : ℕ) → IsSome (at new o) → form_in (at new o) ≡ form_in (at old o)
   pub made : (o : ℕ) → IsSome (at new o) → made_of new o ≡ made_of old o
+  pub depths : (o : ℕ) → IsSome (at new o) → depth_of (at new o) ≡ depth_of (at old o)
+  pub alone : (o : ℕ) → IsSome (at new o) → count_in (at old o) ≡ 1 → count_in (at new o) ≡ 1
 
 -- the counters where so many elements more were copied
 abbrev pub copied_more : Stats → ℕ → Stats

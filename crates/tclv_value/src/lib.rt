@@ -30,11 +30,9 @@ mod replacing;
 mod sequences;
 mod setting;
 mod store;
+mod ways;
 
 pub use faults::ValueFault;
 pub use places::At;
 pub use procedures::{Param, ProcDef};
 pub use store::Store;
-
-#[cfg(test)]
-mod tests;

@@ -1,5 +1,5 @@
 // Where texts are: places of the stack, and cells.
-ghost use Rattle.std.specs.Prelude.{◌≡◌, ◌≤◌, length};
+ghost use Rattle.std.specs.Prelude.{◌≡◌, ◌+◌, ◌≤◌, length, take};
 ghost use Rattle.tclv_value.specs.Stacks.{top};
 ghost use Rattle.tclv_value.specs.Places.{HasId, id_at, PutsId};
 
@@ -55,4 +55,13 @@ pub(crate) fn top_objects(stack: &[ObjId], n: usize) -> &[ObjId]
     ensures { result.now ≡ top n stack.now }
 {
     &stack[stack.len() - n..]
+}
+
+// The objects of the `path` texts below the top of a stack, the lowest of them first.
+pub(crate) fn index_objects(stack: &[ObjId], path: usize) -> &[ObjId]
+    requires { path + 1 ≤ length stack.now }
+    ensures { result.now ≡ take path (top (path + 1) stack.now) }
+{
+    let above = top_objects(stack, path + 1);
+    &above[..path]
 }

@@ -12,6 +12,7 @@ ghost use Rattle.tclv_value.specs.Appending.{CanAppend};
 ghost use Rattle.tclv_value.specs.Kept.{list_in, list_at, IsAbove, IsOutside};
 ghost use Rattle.tclv_value.specs.Paths.{put_at};
 ghost use Rattle.tclv_value.specs.Setting.{CanSwap, Swaps, CanChange, ListChanged, MakesList, LetsGo, HasRoomAt, SetsElement, text_with, copied_more};
+ghost use Rattle.tclv_value.specs.Ways.{LeavesOthers};
 ghost use Rattle.tclv_value.specs.declared.forms.Form.TheVariants as form;
 
 use crate::appending::{copy_list, depth_with, longer, next_list};
@@ -77,8 +78,8 @@ pub(crate) fn copy_with(
     Ok(copy)
 }
 
-// Room for one more element in a list of this length, where the place is the one behind the last.
-fn room_at(
+/// Room for one more element in a list of this length, where the place is the one behind the last.
+pub(crate) fn room_at(
     heap: &Heap<Forms>,
     alloc: Global,
     id: ObjId,
@@ -97,9 +98,9 @@ fn room_at(
     next_list(heap, alloc, id)
 }
 
-// Puts a value at a place of an object's list, in place: the value gets one more holder, and the
-// element that was there loses one. There is room. Takes no memory.
-fn change_with(
+/// Puts a value at a place of an object's list, in place: the value gets one more holder, and the
+/// element that was there loses one. There is room. Takes no memory.
+pub(crate) fn change_with(
     heap: &mut Heap<Forms>,
     alloc: Global,
     id: ObjId,
@@ -113,6 +114,7 @@ fn change_with(
         → HasRoomAt place next list }
     ensures changed { ListChanged heap.old.graph id (text_with heap.old.graph id place value)
         heap.new.graph }
+    ensures others { LeavesOthers heap.old.graph id value heap.new.graph }
     ensures rest { heap.new ≡ record heap.old { graph = heap.new.graph } }
 {
     heap.share(value);

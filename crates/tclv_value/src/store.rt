@@ -9,6 +9,7 @@ mod leftovers;
 mod lists;
 mod paths;
 mod replacing;
+mod ways;
 
 use crate::faults::ValueFault;
 use crate::forms::{Form, Forms};

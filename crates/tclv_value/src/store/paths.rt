@@ -32,7 +32,8 @@ impl Store {
     ///
     /// With one index the object of the place is changed where no other holder has it, in time that
     /// doesn't grow with the list; else the place gets a copy, which shares the other elements. With more
-    /// indices the lists on the path are read from their texts and written anew.
+    /// indices the objects of the path are changed where none of them has another holder, in time that
+    /// doesn't grow with their lists; else the lists are read from their texts and written anew.
     ///
     /// Refuses, at the first list from the outer one on where there is a cause: with `NotList` exactly
     /// where the text there is no list, then with `BadIndex` exactly where the index has no form of
@@ -59,7 +60,7 @@ impl Store {
         if path == 1 {
             return self.set_one(at);
         }
-        self.set_by_texts(at, path)
+        self.set_deep(at, path)
     }
 
     // Puts the top text, which is the value, at the place that the text below it names, which is the
@@ -106,7 +107,7 @@ impl Store {
     }
 
     // Makes the text of a place.
-    fn write_text(&mut self, at: At) -> Result<(), NoMemory>
+    pub(super) fn write_text(&mut self, at: At) -> Result<(), NoMemory>
         requires { HasPlace self.old at }
         ensures made { OnOk result (IsMade self.new at) }
         ensures kept { KeepsTexts self.old self.new }
@@ -215,7 +216,7 @@ impl Store {
     }
 
     // Takes texts off the stack, so many as are asked for, which are there.
-    fn drop_top(&mut self, n: usize)
+    pub(super) fn drop_top(&mut self, n: usize)
         requires { n ≤ length self.old.stack }
         ensures popped { self.new.stack ≡ take (length self.old.stack - n) self.old.stack }
         ensures cells { self.new.cells ≡ self.old.cells }

@@ -36,23 +36,23 @@ returns-then-path-eq1-clause-memory c = if_err c.set_one.result _ _ (λ why none
 
 pub returns-clause-same : goal.returns-clause-same
 unfolding SetsInPlace
-returns-clause-same c = on_ok_any c.set_by_texts.result (SetsInPlace c.args.self.now c.args.at c.args.path c.set_by_texts.new.self) (λ is. absurd (c.if-path-eq1.false is))
+returns-clause-same c = on_ok_any c.set_deep.result (SetsInPlace c.args.self.now c.args.at c.args.path c.set_deep.new.self) (λ is. absurd (c.if-path-eq1.false is))
 
 pub returns-clause-fresh : goal.returns-clause-fresh
 unfolding SetsInCopy
-returns-clause-fresh c = on_ok_any c.set_by_texts.result (SetsInCopy c.args.self.now c.args.at c.args.path c.set_by_texts.new.self) (λ is. absurd (c.if-path-eq1.false is))
+returns-clause-fresh c = on_ok_any c.set_deep.result (SetsInCopy c.args.self.now c.args.at c.args.path c.set_deep.new.self) (λ is. absurd (c.if-path-eq1.false is))
 
 pub returns-clause-listed : goal.returns-clause-listed
 unfolding MakesListAt
-returns-clause-listed c = on_ok_any c.set_by_texts.result (MakesListAt c.args.path c.args.at c.set_by_texts.new.self) (λ is. absurd (c.if-path-eq1.false is))
+returns-clause-listed c = on_ok_any c.set_deep.result (MakesListAt c.args.path c.args.at c.set_deep.new.self) (λ is. absurd (c.if-path-eq1.false is))
 
 pub returns-clause-counters : goal.returns-clause-counters
 unfolding SetsWithoutWork
-returns-clause-counters c = on_ok_any c.set_by_texts.result (SetsWithoutWork c.args.self.now c.args.at c.args.path c.set_by_texts.new.self) (λ ready. absurd (c.if-path-eq1.false ready.0))
+returns-clause-counters c = on_ok_any c.set_deep.result (SetsWithoutWork c.args.self.now c.args.at c.args.path c.set_deep.new.self) (λ ready. absurd (c.if-path-eq1.false ready.0))
 
 pub returns-clause-memory : goal.returns-clause-memory
 unfolding NeedsNoMemory
-returns-clause-memory c = err_any c.set_by_texts.result (λ why. NeedsNoMemory c.args.self.now c.args.at c.args.path why) (λ why ready. absurd (c.if-path-eq1.false ready.0))
+returns-clause-memory c = err_any c.set_deep.result (λ why. NeedsNoMemory c.args.self.now c.args.at c.args.path why) (λ why ready. absurd (c.if-path-eq1.false ready.0))
 
 pub returns-then-path-eq1-clause-copies : goal.returns-then-path-eq1-clause-copies
 unfolding CopiesElements
@@ -60,4 +60,4 @@ returns-then-path-eq1-clause-copies c = on_ok c.set_one.result (λ counted ready
 
 pub returns-clause-copies : goal.returns-clause-copies
 unfolding CopiesElements
-returns-clause-copies c = on_ok_any c.set_by_texts.result (CopiesElements c.args.self.now c.args.at c.args.path c.set_by_texts.new.self) (λ ready. absurd (c.if-path-eq1.false ready.0))
+returns-clause-copies c = on_ok_any c.set_deep.result (CopiesElements c.args.self.now c.args.at c.args.path c.set_deep.new.self) (λ ready. absurd (c.if-path-eq1.false ready.0))
