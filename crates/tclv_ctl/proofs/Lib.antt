@@ -4,3 +4,11 @@ pub mod PlanLemmas
 pub mod ChoiceLemmas
 pub mod CallLemmas
 pub mod ParameterLemmas
+pub mod ArgumentLemmas
+pub mod UsageLemmas
+pub mod PutLemmas
+pub mod ReadLemmas
+pub mod ReturnLemmas
+pub mod HandlerLemmas
+pub mod ScriptLemmas
+pub mod EndingLemmas

@@ -66,7 +66,7 @@ pub record OneMore (s : List Text) (p next : ℕ) (places : List ClausePlaces) :
   pub inside : All (IsInside s) (reverse places)
   pub are : pairs (drop p s) ≡ map (clause_in s) (reverse places)
 
-next_within : (d : Bool) (body at next n : ℕ) → next ≡ cond d body at → body < n → at < n → next < n
+pub next_within : (d : Bool) (body at next n : ℕ) → next ≡ cond d body at → body < n → at < n → next < n
 next_within true body at next n e h l = subst (λ (k : ℕ). k < n) (sym e) h
 next_within false body at next n e h l = subst (λ (k : ℕ). k < n) (sym e) l
 

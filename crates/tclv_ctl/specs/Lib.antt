@@ -1,3 +1,7 @@
 pub mod Steps
 pub mod Switching
 pub mod Parameters
+pub mod Arguments
+pub mod Codes
+pub mod Returns
+pub mod Handlers

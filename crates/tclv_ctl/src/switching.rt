@@ -142,7 +142,7 @@ fn clause_words(store: &mut Store, string: usize) -> Result<usize, CmdFault>
 }
 
 // Whether a word is `-`.
-fn is_dash(store: &mut Store, at: usize) -> Result<bool, NoMemory>
+pub(crate) fn is_dash(store: &mut Store, at: usize) -> Result<bool, NoMemory>
     requires { at < length store.old.stack }
     ensures says { IfOk result (λ x. x ≡ is_dash (slice_index_or store.old.stack at [])) }
     ensures kept { KeepsTexts store.old store.new }
@@ -152,7 +152,7 @@ fn is_dash(store: &mut Store, at: usize) -> Result<bool, NoMemory>
 }
 
 // Where the body is that stands at a place, or the one behind it where that is `-`.
-fn body_at(store: &mut Store, at: usize, behind: usize) -> Result<usize, NoMemory>
+pub(crate) fn body_at(store: &mut Store, at: usize, behind: usize) -> Result<usize, NoMemory>
     requires { at < length store.old.stack }
     ensures body { IfOk result (λ body.
         body ≡ if is_dash (slice_index_or store.old.stack at []) then behind else at) }
