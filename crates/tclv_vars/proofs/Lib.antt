@@ -16,3 +16,4 @@ pub mod OtherLemmas
 pub mod LawLemmas
 pub mod ByteOrder
 pub mod OrderLemmas
+pub mod EndingLemmas

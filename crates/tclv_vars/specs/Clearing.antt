@@ -1,13 +1,13 @@
 -- Cells that hold nothing any more: after an unset, and where names go with their cells.
-use Rattle.std.specs.Prelude.{◌≡◌, ℕ, ◌&&◌, ◌≢◌, Bool, true, false, not, nat_eq, is_some, List, [], ◌∷◌, Option, None, Some}
+use Rattle.std.specs.Prelude.{◌≡◌, ℕ, zero, suc, ◌-◌, ◌&&◌, ◌≢◌, Bool, true, false, not, nat_eq, is_some, List, [], ◌∷◌, length, Option, None, Some}
 use Rattle.std.specs.List.{list_any}
 use Rattle.std.specs.FinMap.{get, retain_keys}
 use Rattle.tclv_names.specs.Keyed.{Text, Named, Numbers, values_of}
 use Rattle.tclv_vars.specs.declared.parts.Slot.{Slot}
 use Rattle.tclv_vars.specs.declared.parts.Content.{Content}
 use Rattle.tclv_vars.specs.declared.parts.Content.TheVariants.{Plain, Array}
-use Rattle.tclv_vars.specs.Scoping.{popped, last_names}
-use Rattle.tclv_vars.specs.Table.{Table, has_value}
+use Rattle.tclv_vars.specs.Scoping.{popped, last_names, at_frame}
+use Rattle.tclv_vars.specs.Table.{Table, at_scopes, has_value}
 
 -- The cells of an array's elements.
 abbrev pub elements : Option Content → List ℕ
@@ -45,6 +45,32 @@ Apart cs ns = (n k : Text) (s o : Slot) → get ns n ≡ Some s → get ns k ≡
 -- The last frame ends, with the cells of its own names.
 abbrev pub ended : Table → Table
 ended t = record t { scopes = popped t.scopes; contents = without_names t.contents t.contents (last_names t.scopes) }
+
+-- The last frame is made current, and ends.
+abbrev pub last_ended : Table → Table
+last_ended t = ended (at_scopes t (at_frame t.scopes (length t.scopes.frames - 1)))
+
+-- So many frames end, the last first.
+unfoldable pub ended_by : ℕ → Table → Table
+ended_by zero t = t
+ended_by (suc n) t = ended_by n (last_ended t)
+
+-- What is kept of the cells' texts then: the cells of the names of each frame go with it.
+unfoldable pub left_by : {X : Type 0} → ℕ → Table → Numbers X → Numbers X
+left_by zero t texts = texts
+left_by (suc n) t texts = left_by n (last_ended t) (without_names texts t.contents (last_names t.scopes))
+
+-- All frames but the global one end, the last first, and the global one is current.
+abbrev pub outermost : Table → Table
+outermost t = let o = ended_by (length t.scopes.frames - 1) t in at_scopes o (at_frame o.scopes 0)
+
+abbrev pub outermost_texts : {X : Type 0} → Table → Numbers X → Numbers X
+outermost_texts t texts = left_by (length t.scopes.frames - 1) t texts
+
+-- The global frame is there alone, and is current.
+pub record IsOutermost (t : Table) : Type 0 where
+  pub alone : length t.scopes.frames ≡ 1
+  pub current : t.scopes.current ≡ 0
 
 -- Each cell that holds a value has a text here, and no other one has.
 abbrev pub Tied : {X : Type 0} → Table → Numbers X → Type 0

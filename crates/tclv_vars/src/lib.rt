@@ -13,6 +13,7 @@
 #![tactic(auto)]
 
 mod clearing;
+mod ending;
 mod faults;
 mod indices;
 pub mod laws;
@@ -29,6 +30,3 @@ pub use faults::VarFault;
 pub use indices::Indices;
 pub use places::{Missing, Place, Root};
 pub use variables::Vars;
-
-#[cfg(test)]
-mod tests;

@@ -206,6 +206,13 @@ impl Scopes {
         self.current
     }
 
+    /// How many frames there are, the global one among them.
+    pub fn count(&self) -> usize
+        ensures { result ≡ length self.now.frames }
+    {
+        self.frames.len()
+    }
+
     /// The level of the current frame: 0 for the global one, and one above its caller's for each other.
     pub fn level(&self) -> usize
         ensures { result ≡ level_of self.now self.now.current }

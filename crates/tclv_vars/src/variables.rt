@@ -256,6 +256,14 @@ impl Vars {
         self.tables.scopes().current()
     }
 
+    /// How many frames there are, the global one among them.
+    pub fn frame_count(&self) -> usize
+        ensures count { result ≡ length self.now.scopes.frames }
+        ensures some { 0 < result }
+    {
+        self.tables.scopes().count()
+    }
+
     /// The number of the current frame's namespace.
     pub fn space(&self) -> u64
         ensures answer { result ≡ space_of self.now.scopes self.now.scopes.current }
