@@ -38,6 +38,3 @@ pub use replies::{
 pub use values::{know_text, list_len, refuse_list};
 pub use variables::{give_text, read_variable, set_cell};
 pub use words::{copy_of, make_place, make_word, word_at, word_is};
-
-#[cfg(test)]
-mod tests;

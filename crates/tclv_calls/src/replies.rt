@@ -2,10 +2,10 @@
 ghost use Rattle.std.specs.Prelude.{◌≡◌};
 ghost use Rattle.tclv_reply.specs.Replies.{HasName};
 
-use super::*;
 use std::alloc::Global;
 use std::test::Fail;
 use tclv_model::VarState;
+use tclv_reply::read_variable;
 use tclv_value::{At, Store};
 
 // Whether a variable of this state, whose name is `x`, is refused with this message.
