@@ -10,8 +10,8 @@ use Rattle.tclv_engine.specs.Results.{Res, Outcome, plain}
 use Rattle.tclv_engine.specs.Words.{Evaluator, expanded, word, words}
 use Rattle.tclv_engine.specs.EachLoops.{result_of}
 use Rattle.tclv_engine.specs.Plans.{Lead, Script as ScriptLead, Refused, Nothing, Alternative, Wanted, Finished, Run, Value, Choice, Tested, Started, Each}
-use Rattle.tclv_engine.specs.Evaluation.{Given, steady, concluding, text, value_result, lead, choose, perform_by, around, call, command, end_of, sequence, back_to, nested, evaluate, none_left, evaluator, whole_script, whole}
-use Rattle.tclv_engine.specs.Bounds.{IsWhole, BoundsAgree}
+use Rattle.tclv_engine.specs.Evaluation.{Given, steady, concluding, text, value_result, lead, choose, perform_by, around, call, command, end_of, sequence, back_to, nested, evaluate, paid_call, evaluating, none_left, evaluator, whole_script, whole_words, whole}
+use Rattle.tclv_engine.specs.Bounds.{IsWhole, BoundsAgree, IsWholeOfWords, BoundsAgreeOnWords}
 use Rattle.tclv_engine.proofs.SameLemmas.{Same, Agree, EvaluatorsAgree, with_itself, if_same, bind_same, unit_same}
 use Rattle.tclv_engine.proofs.WordBoundLemmas.{substitution_agree}
 use Rattle.tclv_engine.proofs.ExpressionBoundLemmas.{parsed_same, result_agree, condition_agree}
@@ -43,7 +43,7 @@ concluding-same n m m' h = record { same = ap concluding h.same; left = h.left }
 
 module _ {W : Type 0} (n : ℕ) (ev ev' : Evaluator W) (h : EvaluatorsAgree n ev ev') where
   text-agree : (t : Text) → Agree n (text ev t) (text ev' t)
-  text-agree t st u = h (commands t) st u
+  text-agree t st u = h.scripts (commands t) st u
 
   value-agree : (t : Text) → Agree n (value_result ev t) (value_result ev' t)
   value-agree t st u = bind_same (bind_same (parsed_same n t st u) (result_agree n ev ev' h)) (λ x s1 v. with_itself v)
@@ -113,33 +113,58 @@ evaluate-agree given n ev ev' h s = nested-agree n _ _ (sequence-agree given n e
 
 -- ---- bounds
 
+paid-agree : {W K : Type 0} → (given : Given W K) (n : ℕ) (ev ev' : Evaluator W) → ((k : ℕ) → k < n → EvaluatorsAgree k ev ev') → (ws : List Text) → Agree n (paid_call given ev ws) (paid_call given ev' ws)
+paid-agree given n ev ev' h ws st u = unit_same n _ _ st u (λ k l a s1 v. call-agree k ev ev' (h k l) given ws s1 v)
+
+-- evaluators over others that agree below
+evaluating-agree : {W K : Type 0} → (given : Given W K) (n : ℕ) (ev ev' : Evaluator W) → ((k : ℕ) → k < n → EvaluatorsAgree k ev ev') → EvaluatorsAgree n (evaluating given ev) (evaluating given ev')
+evaluating-agree given n ev ev' h = record { scripts = evaluate-agree given n ev ev' h; words = λ ws. nested-agree n _ _ (paid-agree given n ev ev' h ws) }
+
 -- where no unit is left, all evaluators agree below
 none-below : {W : Type 0} → (n : ℕ) (ev ev' : Evaluator W) → n ≤ 0 → (k : ℕ) → k < n → EvaluatorsAgree k ev ev'
 none-below n ev ev' z k l = absurd (omega (arith, z, l))
 
 evaluators-agree : {W K : Type 0} → (given : Given W K) (n bound more : ℕ) → n ≤ bound → n ≤ more → EvaluatorsAgree n (evaluator given bound) (evaluator given more)
 unfolding evaluator
-evaluators-agree given n zero zero h i s = evaluate-agree given n none_left none_left (none-below n none_left none_left h) s
-evaluators-agree given n zero (suc more) h i s = evaluate-agree given n none_left (evaluator given more) (none-below n none_left (evaluator given more) h) s
-evaluators-agree given n (suc bound) zero h i s = evaluate-agree given n (evaluator given bound) none_left (none-below n (evaluator given bound) none_left i) s
-evaluators-agree given n (suc bound) (suc more) h i s =
-    evaluate-agree given n (evaluator given bound) (evaluator given more) (λ k l. evaluators-agree given k bound more (omega (arith, h, l)) (omega (arith, i, l))) s
+evaluators-agree given n zero zero h i = evaluating-agree given n none_left none_left (none-below n none_left none_left h)
+evaluators-agree given n zero (suc more) h i = evaluating-agree given n none_left (evaluator given more) (none-below n none_left (evaluator given more) h)
+evaluators-agree given n (suc bound) zero h i = evaluating-agree given n (evaluator given bound) none_left (none-below n (evaluator given bound) none_left i)
+evaluators-agree given n (suc bound) (suc more) h i =
+    evaluating-agree given n (evaluator given bound) (evaluator given more) (λ k l. evaluators-agree given k bound more (omega (arith, h, l)) (omega (arith, i, l)))
 
 pub bounds_agree : {W K : Type 0} → (given : Given W K) (s : Script) (st : State W) → BoundsAgree given s st
 unfolding whole_script
-bounds_agree given s st bound h = (evaluators-agree given st.units bound st.units h (omega arith) s st (omega arith)).same
+bounds_agree given s st bound h = ((evaluators-agree given st.units bound st.units h (omega arith)).scripts s st (omega arith)).same
 
-whole-agrees : {W K : Type 0} → (given : Given W K) (bound k : ℕ) → k ≤ bound → EvaluatorsAgree k (evaluator given bound) (whole given)
+pub bounds_agree_on_words : {W K : Type 0} → (given : Given W K) (ws : List Text) (st : State W) → BoundsAgreeOnWords given ws st
+unfolding whole_words
+bounds_agree_on_words given ws st bound h = ((evaluators-agree given st.units bound st.units h (omega arith)).words ws st (omega arith)).same
+
+scripts-whole : {W K : Type 0} → (given : Given W K) (bound k : ℕ) → k ≤ bound → (s : Script) → Agree k ((evaluator given bound).script s) ((whole given).script s)
 unfolding whole_script
-whole-agrees given bound k h s st u =
-    let agreed = evaluators-agree given st.units bound st.units (omega (arith, h, u)) (omega arith) s st (omega arith) in
+scripts-whole given bound k h s st u =
+    let agreed = (evaluators-agree given st.units bound st.units (omega (arith, h, u)) (omega arith)).scripts s st (omega arith) in
     record { same = agreed.same; left = omega (arith, agreed.left, u) }
 
-at_units : {W K : Type 0} → (given : Given W K) (units : ℕ) (s : Script) (st : State W) → st.units ≤ units → (evaluator given units).script s st ≡ evaluate given (whole given) s st
+words-whole : {W K : Type 0} → (given : Given W K) (bound k : ℕ) → k ≤ bound → (ws : List Text) → Agree k ((evaluator given bound).words ws) ((whole given).words ws)
+unfolding whole_words
+words-whole given bound k h ws st u =
+    let agreed = (evaluators-agree given st.units bound st.units (omega (arith, h, u)) (omega arith)).words ws st (omega arith) in
+    record { same = agreed.same; left = omega (arith, agreed.left, u) }
+
+whole-agrees : {W K : Type 0} → (given : Given W K) (bound k : ℕ) → k ≤ bound → EvaluatorsAgree k (evaluator given bound) (whole given)
+whole-agrees given bound k h = record { scripts = scripts-whole given bound k h; words = words-whole given bound k h }
+
+-- at a bound that is at least the units left, the evaluator is the one over the whole meaning
+at_units : {W K : Type 0} → (given : Given W K) (units : ℕ) → EvaluatorsAgree units (evaluator given units) (evaluating given (whole given))
 unfolding evaluator
-at_units given zero s st u = (evaluate-agree given 0 none_left (whole given) (none-below 0 none_left (whole given) (omega arith)) s st u).same
-at_units given (suc bound) s st u = (evaluate-agree given (suc bound) (evaluator given bound) (whole given) (λ k l. whole-agrees given bound k (omega (arith, l))) s st u).same
+at_units given zero = evaluating-agree given 0 none_left (whole given) (none-below 0 none_left (whole given) (omega arith))
+at_units given (suc bound) = evaluating-agree given (suc bound) (evaluator given bound) (whole given) (λ k l. whole-agrees given bound k (omega (arith, l)))
 
 pub is_whole : {W K : Type 0} → (given : Given W K) (s : Script) (st : State W) → IsWhole given s st
 unfolding whole_script
-is_whole given s st = at_units given st.units s st (omega arith)
+is_whole given s st = ((at_units given st.units).scripts s st (omega arith)).same
+
+pub is_whole_of_words : {W K : Type 0} → (given : Given W K) (ws : List Text) (st : State W) → IsWholeOfWords given ws st
+unfolding whole_words
+is_whole_of_words given ws st = ((at_units given st.units).words ws st (omega arith)).same

@@ -1,7 +1,7 @@
 -- A cell has a text exactly where it holds a variable's value.
-use Rattle.std.proofs.Common.{◌≡◌, ℕ, List, Bool, sym, ap, ◌∙◌, subst, refl, true, false, is_some, cond, nat_eq, rules, Option, Some, None, Result, Ok, Err}
+use Rattle.std.proofs.Common.{◌≡◌, ℕ, ◌<◌, length, arith, List, Bool, sym, ap, ◌∙◌, subst, refl, true, false, is_some, cond, nat_eq, rules, Option, Some, None, Result, Ok, Err}
 use Rattle.std.specs.Prelude.{◌||◌, IfErr, slice_index_or, []}
-use Rattle.tclv_value.specs.View.{View, text_at}
+use Rattle.tclv_value.specs.View.{View, text_at, HasPlace}
 use Rattle.tclv_value.specs.declared.places.At.{At}
 use Rattle.tclv_value.specs.declared.places.At.TheVariants.{Stack, Cell}
 use Rattle.std.specs.Option.{unwrap_or}
@@ -93,3 +93,7 @@ fresh_write t now x y z cell fresh lacked w f l s e d = record {
   lacks = l ∙ ap (λ b. missing t place.Frame b None) (sym e);
   sound = s;
 }
+
+pub same_place : (v v' : View) (at : At) → v'.stack ≡ v.stack → v'.cells ≡ v.cells → HasPlace v at → HasPlace v' at
+same_place v v' (Stack i) e f h = omega (arith, h, ap length e)
+same_place v v' (Cell cell) e f h = ap (λ m. is_some (get m cell)) f ∙ h

@@ -32,3 +32,6 @@ pub mod Walks
 pub mod WholeLemmas
 pub mod WordBoundLemmas
 pub mod WordLemmas
+pub mod BindLaws
+pub mod InstructionLemmas
+pub mod FitLemmas

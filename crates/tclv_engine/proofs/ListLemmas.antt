@@ -1,14 +1,19 @@
 -- The elements of a list, and variables that get them.
-use Rattle.std.proofs.Common.{◌≡◌, ℕ, ◌+◌, ◌-◌, ◌<◌, ◌≤◌, List, [], ◌∷◌, ◌++◌, length, take, drop, get_or, sym, ap, ◌∙◌, refl, subst, arith, length-append, length-drop, length-take, Result, Ok, Err, Some, min, ⊎_elim}
-use Rattle.std.specs.Prelude.{IfOk, IfErr}
-use Rattle.std.proofs.lemmas.List.{drop_more, take_more, append_assoc, append-nil, drop-drop, drop_all, take_all, get_or-drop, get_or-take, get_or_default}
+use Rattle.std.proofs.Common.{◌≡◌, ℕ, ◌+◌, ◌-◌, ◌<◌, ◌≤◌, List, [], ◌∷◌, ◌++◌, length, take, drop, get_or, sym, ap, ◌∙◌, refl, subst, arith, length-append, length-drop, length-take, Result, Ok, Err, Some, None, set, zero, suc, min, ⊎_elim}
+use Rattle.std.specs.Prelude.{IfOk, IfErr, IsOkAnd, option_to_list, slice_get}
+use Rattle.std.specs.Result.{result_unwrap_or}
+use Rattle.std.proofs.lemmas.List.{drop_more, take_more, append_assoc, append-nil, drop-drop, drop_all, take_all, get_or-drop, get_or-take, get_or_default, get_or_append_left, length-set}
 use Rattle.std.proofs.lemmas.Bool.{cases_lt}
 use Rattle.std.proofs.Math.Seq.{take-append_seam}
 use Rattle.tclv_io.specs.World.{World}
 use Rattle.tclv_model.specs.declared.data_commands.CmdFault.{CmdFault}
-use Rattle.tclv_model.specs.Rows.{Answer}
+use Rattle.tclv_text.specs.Elements.{elements}
+use Rattle.tclv_text.specs.Lists.{ListFlaw}
+use Rattle.tclv_model.specs.Rows.{Answer, Gives}
+use Rattle.tclv_model.specs.Values.{list_of, list_read}
 use Rattle.tclv_value.specs.View.{View}
 use Rattle.tclv_reply.specs.Replies as replies
+use Rattle.tclv_reply.proofs.Laws.{given_read, get_some, get_none}
 use Rattle.tclv_engine.specs.declared.endings.End.{End}
 use Rattle.tclv_engine.specs.declared.endings.End.TheVariants as end
 use Rattle.tclv_engine.specs.declared.machine.Machine.{Machine}
@@ -17,10 +22,10 @@ use Rattle.tclv_engine.specs.Results.{Res, bind, done}
 use Rattle.tclv_engine.specs.Variables.{assign}
 use Rattle.tclv_engine.specs.Answers.{Outer, AtWorld, Start, Runs, start, SameState, Leaves, KeepsStack, returned}
 use Rattle.tclv_engine.specs.DataAnswers.{of_answer, BecomesError}
-use Rattle.tclv_engine.specs.ListAssignment.{next_of, assign_each, unseen}
+use Rattle.tclv_engine.specs.ListAssignment.{listed, IsList, counted, next_of, assign_each, unseen}
 use Rattle.tclv_engine.proofs.Binds.{runs_as, bind_stop, bind-done}
 use Rattle.tclv_engine.proofs.Leaves.{raise_runs, raises_as, value_runs}
-use Rattle.tclv_engine.proofs.StackLemmas.{take-under}
+use Rattle.tclv_engine.proofs.StackLemmas.{take-under, last-push, under-push}
 use Rattle.tclv_engine.proofs.DataLemmas.{message_below, code_on_top, under_reply}
 
 -- ---- elements
@@ -68,6 +73,84 @@ pub read_runs : {W : Type 0} → {here : Outer} (answer : Answer (List Text)) (t
     replies.IsGiven answer (λ ts x. x ≡ ts) t → Runs (of_answer answer (state_of before w)) returned (start before w here.torn) (Ok t) new here
 read_runs answer t before new w told same h =
     runs_as (ap (λ a. of_answer a (state_of before w)) (sym h.given)) (value_runs before told same h.shown)
+
+-- ---- the elements of a list by its place
+
+-- what is known of the elements of a text that is a list
+pub list_holds : (t : Text) (P : List Text → Type 0) → IsList t → IsOkAnd (elements t) P → P (listed t)
+list_holds t P e h = subst (λ (r : Result (List Text) ListFlaw). IsOkAnd r P) e h
+
+given_listed : (t : Text) (ts : List Text) → list_of t ≡ Gives ts → ts ≡ listed t
+given_listed t ts e = sym (ap (λ (r : Result (List Text) ListFlaw). result_unwrap_or r []) (given_read (elements t) ts e))
+
+pub given_list : (t : Text) (ts : List Text) → list_of t ≡ Gives ts → IsList t
+given_list t ts e = given_read (elements t) ts e ∙ ap Ok (given_listed t ts e)
+
+pub given_len : (t : Text) (ts : List Text) (len : ℕ) → list_of t ≡ Gives ts → len ≡ length ts → len ≡ length (listed t)
+given_len t ts len e h = h ∙ ap length (given_listed t ts e)
+
+-- how many elements a text has
+pub counted_runs : {W : Type 0} → {here : Outer} (t : Text) (len : ℕ) (before new : (Machine W)) (w : World) → here.told ≡ Some w → SameState before new →
+    replies.IsGiven (list_of t) (λ ts x. x ≡ length ts) len → Runs (of_answer (list_of t) (state_of before w)) (counted t) (start before w here.torn) (Ok len) new here
+counted_runs t len before new w told same h =
+    runs_as (ap (λ a. of_answer a (state_of before w)) (sym h.given)) (value_runs before told same (given_listed t h.read h.given, h.shown))
+
+-- the elements of a text that is a list, as a computation
+pub list_done : {W : Type 0} → (t : Text) (st : (State W)) → IsList t → of_answer (list_of t) st ≡ done (listed t) st
+list_done t st e = ap (λ r. of_answer (list_read r) st) e
+
+-- the list at a place of a stack that grew
+pub list_below : (base more now : List Text) (i : ℕ) → now ≡ base ++ more → i < length base → get_or now i [] ≡ get_or base i []
+list_below base more now i e h = ap (λ s. get_or s i []) e ∙ get_or_append_left base more [] i h
+
+pub list_stays : (t u : Text) → u ≡ t → IsList t → IsList u
+list_stays t u e = subst IsList (sym e)
+
+-- the element that was pushed, by the elements of a text that is the same
+pub one_pushed : (t u : Text) (cur new : List Text) (k : ℕ) → u ≡ t → k < length (listed t) → new ≡ cur ++ option_to_list (slice_get (listed u) k) → new ≡ cur ++ get_or (listed t) k [] ∷ []
+one_pushed t u cur new k e h p = p ∙ ap (λ v. cur ++ option_to_list (slice_get (listed v) k)) e ∙ ap (λ o. cur ++ option_to_list o) (get_some (listed t) k h)
+
+pub none_pushed : (t : Text) (cur new : List Text) (k : ℕ) → length (listed t) ≤ k → new ≡ cur ++ option_to_list (slice_get (listed t) k) → new ≡ cur
+none_pushed t cur new k h p = p ∙ ap (λ o. cur ++ option_to_list o) (get_none (listed t) k h) ∙ append-nil cur
+
+take_set : (s : List Text) (i : ℕ) (x : Text) (n : ℕ) → i < n → take n (set s i x) ≡ set (take n s) i x
+take_set s i x zero h = absurd (omega (arith, h))
+take_set [] i x (suc n) h = refl
+take_set (y ∷ ys) zero x (suc n) h = refl
+take_set (y ∷ ys) (suc i) x (suc n) h = ap (λ l. y ∷ l) (take_set ys i x n (omega (arith, h)))
+
+set_seam : (base rest : List Text) (x y : Text) (k : ℕ) → k ≡ length base → set (base ++ x ∷ rest) k y ≡ base ++ y ∷ rest
+set_seam [] rest x y zero e = refl
+set_seam [] rest x y (suc k) e = absurd (omega (arith, e))
+set_seam (b ∷ bs) rest x y zero e = absurd (omega (arith, e))
+set_seam (b ∷ bs) rest x y (suc k) e = ap (λ l. b ∷ l) (set_seam bs rest x y k (omega (arith, e)))
+
+-- The elements behind the first were pushed over the list, and the first then took the list's place.
+pub first_in_place : (base one two new ts : List Text) (t : Text) (k : ℕ) → 0 < length ts → k ≡ length base → one ≡ (base ++ t ∷ []) ++ drop 1 ts → two ≡ one ++ get_or ts 0 [] ∷ []
+    → new ≡ set (take (length two - 1) two) k (get_or two (length two - 1) []) → new ≡ base ++ ts
+first_in_place base one two new [] t k h n e f g = absurd (omega arith)
+first_in_place base one two new (x ∷ xs) t k h n e f g =
+    let under_is : take (length two - 1) two ≡ one = ap (λ s. take (length s - 1) s) f ∙ under-push one x in
+    let last_is : get_or two (length two - 1) [] ≡ x = ap (λ s. get_or s (length s - 1) []) f ∙ last-push one x in
+    g ∙ ap (λ s. set s k (get_or two (length two - 1) [])) under_is ∙ ap (λ y. set one k y) last_is
+    ∙ ap (λ s. set s k x) (e ∙ append_assoc base (t ∷ []) xs) ∙ set_seam base xs t x k n
+
+-- the element that was lent, by the elements of a text that is the same
+pub element_is : (t u x : Text) (k : ℕ) → u ≡ t → IsList t → k < length (listed t) → IsOkAnd (elements u) (λ ts. Some x ≡ slice_get ts k) → x ≡ get_or (listed t) k []
+element_is t u x k e list h is =
+    let known : Some x ≡ slice_get (listed u) k = list_holds u (λ ts. Some x ≡ slice_get ts k) (list_stays t u e list) is in
+    some_is x (get_or (listed t) k []) (known ∙ ap (λ v. slice_get (listed v) k) e ∙ get_some (listed t) k h)
+  where
+    some_is : (x y : Text) → Some x ≡ Some y → x ≡ y
+    some_is x y e = cc
+
+-- the top text moved to a place below it
+pub set_then_under : (old mid new : List Text) (to last : ℕ) → to + 1 < length old → last ≡ length old - 1 → mid ≡ set old to (get_or old last []) → new ≡ take (length mid - 1) mid → new ≡ set (take (length old - 1) old) to (get_or old (length old - 1) [])
+set_then_under old mid new to last h l e f =
+    let x = get_or old (length old - 1) [] in
+    let m : mid ≡ set old to x = e ∙ ap (λ k. set old to (get_or old k [])) l in
+    let long : length mid ≡ length old = ap length m ∙ length-set old to x in
+    f ∙ ap (λ k. take (k - 1) mid) long ∙ ap (take (length old - 1)) m ∙ take_set old to x (length old - 1) (omega (arith, h))
 
 -- ---- a value more
 

@@ -24,10 +24,10 @@ abbrev between-turned : {W : Type 0} → Res W Outcome → Res W Bool
 between-turned m = record { ending = between_ending m.ending; after = m.after; events = m.events }
 
 pub body_agree : {W : Type 0} → (n : ℕ) (ev ev' : (Evaluator W)) → EvaluatorsAgree n ev ev' → (s : Script) → Agree n (body ev s) (body ev' s)
-body_agree n ev ev' h s st u = let k = h s st u in record { same = ap turned k.same; left = k.left }
+body_agree n ev ev' h s st u = let k = h.scripts s st u in record { same = ap turned k.same; left = k.left }
 
 pub between_agree : {W : Type 0} → (n : ℕ) (ev ev' : (Evaluator W)) → EvaluatorsAgree n ev ev' → (s : Script) → Agree n (between_turns ev s) (between_turns ev' s)
-between_agree n ev ev' h s st u = let k = h s st u in record { same = ap between-turned k.same; left = k.left }
+between_agree n ev ev' h s st u = let k = h.scripts s st u in record { same = ap between-turned k.same; left = k.left }
 
 pub paid_agree : {W : Type 0} → (n : ℕ) (ev ev' : (Evaluator W)) → EvaluatorsAgree n ev ev' → (s : Script) → Agree n (paid_body ev s) (paid_body ev' s)
 paid_agree n ev ev' h s st u = bind_same (unit_left n st u) (λ a s1 v. bind_same (body_agree n ev ev' h s s1 v) (λ t s2 x. with_itself x))
@@ -60,7 +60,7 @@ module _ {W : Type 0} (n : ℕ) (ev ev' : (Evaluator W)) (h : EvaluatorsAgree n 
       bind_same (loop_agree n _ _ (stepped_turn-agree tree (commands next) (commands text)) s1 v) (λ a s2 x. with_itself x))
 
   begins-agree : (start : Text) → Agree n (begins ev start) (begins ev' start)
-  begins-agree start st u = bind_same (h (commands start) st u) (λ o s1 v. with_itself v)
+  begins-agree start st u = bind_same (h.scripts (commands start) st u) (λ o s1 v. with_itself v)
 
   pub started_loop_agree : (start condition next text : Text) → Agree n (started_loop ev start condition next text) (started_loop ev' start condition next text)
   started_loop_agree start condition next text st u = bind_same (begins-agree start st u) (λ a s1 v. stepped_loop-agree condition next text s1 v)

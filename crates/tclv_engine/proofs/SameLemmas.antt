@@ -1,5 +1,5 @@
 -- Computations that are the same where few units are left.
-use Rattle.std.proofs.Common.{◌≡◌, ◌≤◌, ◌<◌, ◌-◌, ◌++◌, ℕ, zero, suc, arith, refl, subst, ap, ◌∙◌, Bool, true, false, if◌then◌else◌, None, Result, Ok, Err}
+use Rattle.std.proofs.Common.{List, ◌≡◌, ◌≤◌, ◌<◌, ◌-◌, ◌++◌, ℕ, zero, suc, arith, refl, subst, ap, ◌∙◌, Bool, true, false, if◌then◌else◌, None, Result, Ok, Err}
 use Rattle.tclv_parse.specs.declared.tree.Script.{Script}
 use Rattle.tclv_vars.specs.declared.places.Place.TheVariants as place
 use Rattle.tclv_vars.specs.declared.faults.VarFault.{VarFault}
@@ -21,9 +21,10 @@ pub record Same {W A : Type 0} (n : ℕ) (m m' : Res W A) : Type 0 where
 abbrev pub Agree : {W A : Type 0} → ℕ → ((State W) → Res W A) → ((State W) → Res W A) → Type 0
 Agree n f f' = (st : (State _)) → st.units ≤ n → Same n (f st) (f' st)
 
--- and with each script
-abbrev pub EvaluatorsAgree : {W : Type 0} → ℕ → (Evaluator W) → (Evaluator W) → Type 0
-EvaluatorsAgree n ev ev' = (s : Script) → Agree n (ev.script s) (ev'.script s)
+-- and with each script, and all words
+pub record EvaluatorsAgree {W : Type 0} (n : ℕ) (ev ev' : (Evaluator W)) : Type 0 where
+  pub scripts : (s : Script) → Agree n (ev.script s) (ev'.script s)
+  pub words : (ws : List Text) → Agree n (ev.words ws) (ev'.words ws)
 
 -- A computation that leaves at most n units is the same as itself.
 pub with_itself : {W A : Type 0} {n : ℕ} {m : Res W A} → m.after.units ≤ n → Same n m m
@@ -84,11 +85,11 @@ read_cell-same n name (Ok cell) st u = with_itself u
 read_cell-same n name (Err f) st u = with_itself u
 
 pub variable_same : {W : Type 0} → (n : ℕ) (name : Text) → Agree {W = W} n (variable name) (variable name)
-variable_same n name st u = if_same (is_unbuilt (bytes_of name)) (with_itself u) (read_cell-same n name (read st.vars place.Frame (bytes_of name) None) st u)
+variable_same n name st u = if_same (is_unbuilt (bytes_of name)) (with_itself u) (read_cell-same n name (read st.tables.vars place.Frame (bytes_of name) None) st u)
 
 write_cell-same : {W : Type 0} → (n : ℕ) (name value : Text) (r : Result Spot VarFault) → Agree {W = W} n (write_cell name value r) (write_cell name value r)
 write_cell-same n name value (Ok spot) st u = with_itself u
 write_cell-same n name value (Err f) st u = with_itself u
 
 pub assign_same : {W : Type 0} → (n : ℕ) (name value : Text) → Agree {W = W} n (assign name value) (assign name value)
-assign_same n name value st u = if_same (is_unbuilt (bytes_of name)) (with_itself u) (write_cell-same n name value (write st.vars place.Frame (bytes_of name) None) st u)
+assign_same n name value st u = if_same (is_unbuilt (bytes_of name)) (with_itself u) (write_cell-same n name value (write st.tables.vars place.Frame (bytes_of name) None) st u)

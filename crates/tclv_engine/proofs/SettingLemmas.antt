@@ -15,7 +15,7 @@ use Rattle.std.specs.FinMap.{get}
 use Rattle.std.proofs.lemmas.List.{get_or_push, get_or_append_left}
 use Rattle.tclv_io.specs.World.{World}
 use Rattle.tclv_engine.specs.declared.machine.Machine.{Machine}
-use Rattle.tclv_engine.specs.State.{Text, state_of}
+use Rattle.tclv_engine.specs.State.{Text, state_of, with_variables}
 use Rattle.tclv_engine.specs.Variables.{assign, is_unbuilt}
 use Rattle.tclv_engine.proofs.NameLemmas.{bytes-are}
 use Rattle.tclv_engine.proofs.StackLemmas.{last-pushed}
@@ -59,5 +59,5 @@ pub set-state : {W : Type 0} → (old new : (Machine W)) (w : World) (bs value :
 set-state old new w bs value u plain h own units depth writes =
     let named : bs ≡ bytes_of (chars bs) = bytes-are bs (chars bs) u refl in
     let written = assign-write bs (chars bs) value (state_of old w) (Ok h.spot) named plain (ap (λ b. write old.values.vars place.Frame b None) (sym named) ∙ h.wrote) in
-    let same : state_of new w ≡ record (state_of old w) { vars = h.spot.after; texts = insert old.values.store.cells h.spot.cell value } = rw (h.vars, h.cells, own, units, depth, writes) in
+    let same : state_of new w ≡ with_variables h.spot.after (insert old.values.store.cells h.spot.cell value) (state_of old w) = rw (h.vars, h.cells, own, units, depth, writes) in
     same ∙ ap (λ r. r.after) written

@@ -1,6 +1,6 @@
 -- The texts of a stack.
 use Rattle.std.proofs.Common.{◌≡◌, ℕ, ◌-◌, ◌<◌, ◌≤◌, List, [], ◌∷◌, ◌++◌, length, take, drop, sym, ap, ◌∙◌, subst, arith, length-append, take-take, get_or}
-use Rattle.std.proofs.lemmas.List.{take_all, at_drop_all, get_or-take, take-append-drop, drop-append-le}
+use Rattle.std.proofs.lemmas.List.{take_all, take_at, at_drop_all, get_or-take, take-append-drop, drop-append-le}
 use Rattle.std.proofs.Math.Seq.{take-append_seam, drop-append_seam}
 use Rattle.tclv_value.specs.Stacks.{top}
 use Rattle.std.proofs.lemmas.Grind.{common_steps}
@@ -12,6 +12,9 @@ use Rattle.tclv_engine.specs.Answers.{last_of, Over, Keeps, Pushes, PushesOne, K
 
 pub last-push : (stack : List Text) (text : Text) → last_of (stack ++ text ∷ []) ≡ text
 last-push stack text = grind (arith, common_steps)
+
+pub under-push : (stack : List Text) (text : Text) → take (length (stack ++ text ∷ []) - 1) (stack ++ text ∷ []) ≡ stack
+under-push stack text = take_at stack (text ∷ []) (length (stack ++ text ∷ []) - 1) (omega (arith, length-append stack (text ∷ [])))
 
 pub last-pushed : (stack now : List Text) (text : Text) → now ≡ stack ++ text ∷ [] → last_of now ≡ text
 last-pushed stack now text e = ap last_of e ∙ last-push stack text

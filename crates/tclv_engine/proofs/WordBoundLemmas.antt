@@ -15,7 +15,7 @@ part-agree : {W : Type 0} → (n : ℕ) (ev ev' : (Evaluator W)) (el el' : List 
 part-agree n ev ev' el el' h k (part.Literal text) st u = with_itself u
 part-agree n ev ev' el el' h k (part.Variable name) st u = variable_same n name st u
 part-agree n ev ev' el el' h k (part.Element name index) st u = k index st u
-part-agree n ev ev' el el' h k (part.Script script) st u = bind_same (h script st u) (λ o s1 v. with_itself v)
+part-agree n ev ev' el el' h k (part.Script script) st u = bind_same (h.scripts script st u) (λ o s1 v. with_itself v)
 
 joined-agree : {W : Type 0} → (n : ℕ) (value value' : Part → (State W) → Res W Text) → ((p : Part) → Agree n (value p) (value' p)) →
     (before : Text) (ps : List Part) → Agree n (joined value before ps) (joined value' before ps)

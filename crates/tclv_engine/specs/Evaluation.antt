@@ -129,19 +129,33 @@ nested body st =
 abbrev pub evaluate : {W K : Type 0} → Given W K → (Evaluator W) → Script → (State W) → Res W Outcome
 evaluate given ev s st = nested (sequence given ev (plain []) (out-Script s).commands (out-Script s).fault) st
 
+-- Words are run as one command, which takes its unit, in an evaluation of its own.
+abbrev pub paid_call : {W K : Type 0} → Given W K → (Evaluator W) → List Text → (State W) → Res W Outcome
+paid_call given ev ws st = bind (take_unit st) (λ u s1. call given ev ws s1)
+
+abbrev pub evaluate_words : {W K : Type 0} → Given W K → (Evaluator W) → List Text → (State W) → Res W Outcome
+evaluate_words given ev ws st = nested (paid_call given ev ws) st
+
+-- scripts and words, over what evaluates inside them
+abbrev pub evaluating : {W K : Type 0} → Given W K → (Evaluator W) → (Evaluator W)
+evaluating given ev = record { script = evaluate given ev; words = evaluate_words given ev }
+
 -- where no unit is left, no command runs, so what its inner scripts do doesn't count
 abbrev pub none_left : {W : Type 0} → (Evaluator W)
-none_left = record { script = λ s st. ends Budget st }
+none_left = record { script = λ s st. ends Budget st; words = λ ws st. ends Budget st }
 
--- The evaluator at a bound on the units: a command takes a unit, so its inner scripts are at the bound below.
+-- The evaluator at a bound on the units: a command takes a unit, so what it evaluates is at the bound below.
 unfoldable pub evaluator : {W K : Type 0} → Given W K → ℕ → (Evaluator W)
-evaluator given zero = record { script = evaluate given none_left }
-evaluator given (suc bound) = record { script = evaluate given (evaluator given bound) }
+evaluator given zero = evaluating given none_left
+evaluator given (suc bound) = evaluating given (evaluator given bound)
 
--- The meaning of a script: at the units that are left. By a law a script does what its commands do whose inner scripts have this meaning
--- again, and every bound that is at least the units left gives the same; so no bound shows.
+-- The meaning of a script, and of words: at the units that are left. By a law they do what their commands do whose inner scripts have this
+-- meaning again, and every bound that is at least the units left gives the same; so no bound shows.
 unfoldable pub whole_script : {W K : Type 0} → Given W K → Script → (State W) → Res W Outcome
 whole_script given s st = (evaluator given st.units).script s st
 
+unfoldable pub whole_words : {W K : Type 0} → Given W K → List Text → (State W) → Res W Outcome
+whole_words given ws st = (evaluator given st.units).words ws st
+
 abbrev pub whole : {W K : Type 0} → Given W K → (Evaluator W)
-whole given = record { script = whole_script given }
+whole given = record { script = whole_script given; words = whole_words given }

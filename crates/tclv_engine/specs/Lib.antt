@@ -1,4 +1,5 @@
 pub mod Holdings
+pub mod Surroundings
 pub mod State
 pub mod Results
 pub mod Answers
@@ -20,3 +21,4 @@ pub mod EachLoops
 pub mod Plans
 pub mod Evaluation
 pub mod Bounds
+pub mod Instructions

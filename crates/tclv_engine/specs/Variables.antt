@@ -9,7 +9,7 @@ use Rattle.tclv_model.specs.declared.messages.MessageId.{MessageId}
 use Rattle.tclv_model.specs.declared.messages.MessageId.TheVariants as message
 use Rattle.tclv_model.specs.declared.error_codes.ErrorCode.{ErrorCode}
 use Rattle.tclv_model.specs.declared.error_codes.ErrorCode.TheVariants.{NoCode, UnknownVariable}
-use Rattle.tclv_engine.specs.State.{Text, State}
+use Rattle.tclv_engine.specs.State.{Text, State, variables_in, texts_in, with_variables}
 use Rattle.tclv_model.specs.Message.{text_of}
 use Rattle.tclv_engine.specs.declared.endings.End.{End}
 use Rattle.tclv_engine.specs.declared.endings.End.TheVariants as end
@@ -42,12 +42,12 @@ reading_code _ = UnknownVariable
 
 -- the text of the cell that was found
 abbrev pub read_cell : {W : Type 0} → Text → Result ℕ VarFault → (State W) → Res W Text
-read_cell name (Ok cell) st = done (unwrap_or (get st.texts cell) []) st
+read_cell name (Ok cell) st = done (unwrap_or (get (texts_in st) cell) []) st
 read_cell name (Err f) st = raise (reading_message f) name [] (reading_code f) st
 
 -- the value of the variable of this name
 abbrev pub variable : {W : Type 0} → Text → (State W) → Res W Text
-variable name st = if is_unbuilt (bytes_of name) then not_built st else read_cell name (read st.vars place.Frame (bytes_of name) None) st
+variable name st = if is_unbuilt (bytes_of name) then not_built st else read_cell name (read (variables_in st) place.Frame (bytes_of name) None) st
 
 -- ---- writing
 
@@ -63,9 +63,9 @@ RefusesSetting f name stack e = Raises (text_of (setting_message f) name []) (er
 
 -- the cell that was found has this text
 abbrev pub write_cell : {W : Type 0} → Text → Text → Result Spot VarFault → (State W) → Res W Text
-write_cell name value (Ok spot) st = done value (record st { vars = spot.after; texts = insert st.texts spot.cell value })
+write_cell name value (Ok spot) st = done value (with_variables spot.after (insert (texts_in st) spot.cell value) st)
 write_cell name value (Err f) st = raise (setting_message f) name [] NoCode st
 
 -- The variable of this name is set to a text, which is the value.
 abbrev pub assign : {W : Type 0} → Text → Text → (State W) → Res W Text
-assign name value st = if is_unbuilt (bytes_of name) then not_built st else write_cell name value (write st.vars place.Frame (bytes_of name) None) st
+assign name value st = if is_unbuilt (bytes_of name) then not_built st else write_cell name value (write (variables_in st) place.Frame (bytes_of name) None) st

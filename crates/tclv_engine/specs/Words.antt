@@ -13,9 +13,11 @@ use Rattle.tclv_model.specs.Values.{list_of}
 use Rattle.tclv_engine.specs.DataAnswers.{of_answer}
 use Rattle.tclv_engine.specs.Variables.{variable, not_built}
 
--- What evaluates scripts, as it is handed to what they stand in: a script, in an evaluation of its own.
+-- What evaluates, as it is handed to what scripts stand in: a script, in an evaluation of its own; and words, which are run as one command, in
+-- an evaluation of its own too.
 pub record Evaluator (W : Type 0) : Type 0 where
   pub script : Script → (State W) → Res W Outcome
+  pub words : List Text → (State W) → Res W Outcome
 
 -- The value of a script in brackets is its result.
 abbrev pub bracketed : {W : Type 0} → (Evaluator W) → Script → (State W) → Res W Text

@@ -4,7 +4,8 @@ ghost use Rattle.std.specs.Prelude.{◌&&◌, not, ◌≡◌, ◌-◌, ◌<◌, 
 ghost use Rattle.std.specs.Str.{chars};
 ghost use Rattle.tclv_text.specs.Texts.{IsText};
 ghost use Rattle.tclv_text.specs.Numbers.{whole, whole_text};
-ghost use Rattle.tclv_value.specs.View.{HasPlace, IsMade, text_at};
+ghost use Rattle.tclv_value.specs.View.{HasPlace, IsMade, StaysMade, text_at};
+ghost use Rattle.tclv_engine.specs.ListAssignment.{listed, IsList};
 ghost use Rattle.tclv_value.specs.Stacks.{under};
 ghost use Rattle.tclv_engine.specs.Answers.{Answers, IsCalm, KeepsStack, PushesOne, SameState, last_of, on_top, returned};
 ghost use Rattle.tclv_engine.specs.Operations as spec;
@@ -15,7 +16,7 @@ use crate::machine::Machine;
 use std::cmp::Ordering;
 use tclv_exprp::{Op1, Op2, OpFault, WordOp, apply1, apply2};
 use tclv_model::{ErrorCode, MessageId};
-use tclv_text::{NoMemory, Text, WholeFault, as_str, truth};
+use tclv_text::{NoMemory, WholeFault, as_str, truth};
 use tclv_value::{At, ValueFault};
 
 /// What two texts are that are compared.
@@ -184,19 +185,6 @@ fn as_asked(wanted: bool, found: bool) -> bool
     ensures { result ≡ spec.as_asked wanted found }
 {
     if wanted { found } else { !found }
-}
-
-// Whether a text is one of these.
-fn is_among(text: &[u8], texts: &[Text]) -> bool
-    requires { IsText text.now }
-    ensures { result ≡ spec.is_among (chars text.now) texts.now }
-{
-    for i in 0..texts.len() {
-        if order(text, texts[i].bytes()).is_eq() {
-            return true;
-        }
-    }
-    false
 }
 
 // Whether a text has an `a`, in either case.
@@ -549,6 +537,48 @@ impl<W> Machine<W> {
         }
     }
 
+    // Whether a text, which is made, is that of an element of a list, which it has of this number.
+    fn is_element_at(&mut self, text: At, list: At, k: u64) -> Result<bool, NoMemory>
+        requires text { HasPlace self.old.values.store text }
+        requires made { IsMade self.old.values.store text }
+        requires place { HasPlace self.old.values.store list }
+        requires list { IsList (text_at self.old.values.store list) }
+        requires within { k < length (listed (text_at self.old.values.store list)) }
+        ensures equal { IfOk result (λ same. same ≡ is_eq (spec.order (text_at self.old.values.store text) (slice_index_or (listed (text_at self.old.values.store list)) k []))) }
+        ensures stack { self.new.values.store.stack ≡ self.old.values.store.stack }
+        ensures stays { StaysMade self.old.values.store self.new.values.store }
+        ensures same { SameState self.old self.new }
+    {
+        match self.values.make_element(list, k) {
+            Ok(true) => {
+                let element = self.values.lend_element(list, k);
+                Ok(order(self.values.lend(text), element).is_eq())
+            }
+            Ok(false) => unreachable!(),
+            Err(_) => Err(NoMemory),
+        }
+    }
+
+    // Whether a text, which is made, is that of an element of a list, which has so many.
+    fn is_element(&mut self, text: At, list: At, len: u64) -> Result<bool, NoMemory>
+        requires text { HasPlace self.old.values.store text }
+        requires made { IsMade self.old.values.store text }
+        requires place { HasPlace self.old.values.store list }
+        requires list { IsList (text_at self.old.values.store list) }
+        requires len { len ≡ length (listed (text_at self.old.values.store list)) }
+        ensures found { IfOk result (λ found. found ≡ spec.is_among (text_at self.old.values.store text) (listed (text_at self.old.values.store list))) }
+        ensures stack { self.new.values.store.stack ≡ self.old.values.store.stack }
+        ensures same { SameState self.old self.new }
+    {
+        for k in 0..len {
+            let equal = self.is_element_at(text, list, k)?;
+            if equal {
+                return Ok(true);
+            }
+        }
+        Ok(false)
+    }
+
     // Whether the left one of the top two texts is an element of the list that the right one is, as
     // it is asked for: 1 or 0 in place of them.
     fn membership(&mut self, wanted: bool) -> Result<(), End>
@@ -560,9 +590,9 @@ impl<W> Machine<W> {
     {
         let left = At::Stack(self.values.height() - 2);
         let right = At::Stack(self.values.height() - 1);
-        let elements = self.elements(right)?;
+        let len = self.list_len(right)?;
         self.values.make_text(left)?;
-        let found = is_among(self.values.lend(left), elements.all());
+        let found = self.is_element(left, right, len)?;
         self.truth_number(2, as_asked(wanted, found))
     }
 

@@ -1,5 +1,7 @@
 // The values of a run: a stack of texts, and variables.
-ghost use Rattle.std.specs.Prelude.{◌≡◌, ◌+◌, ◌-◌, ◌<◌, ◌≤◌, ◌++◌, [], ◌∷◌, length, take, Ok, Err, IfOk, IfErr, IfSome, OnOk, OnErr, slice_set, None, Some, slice_index_or};
+ghost use Rattle.std.specs.Prelude.{◌≡◌, ◌+◌, ◌-◌, ◌<◌, ◌≤◌, ◌++◌, [], ◌∷◌, length, take, Ok, Err, ◌↔◌, IsTrue, IsOkAnd, IfOk, IfErr, IfSome, OnOk, OnErr, option_to_list, slice_get, slice_set, None, Some, slice_index_or};
+ghost use Rattle.tclv_text.specs.Elements.{elements};
+ghost use Rattle.tclv_value.specs.ListObjects.{IsElementMade};
 ghost use Rattle.std.specs.Str.{chars};
 ghost use Rattle.std.specs.FinMap as finite;
 ghost use Rattle.std.specs.List.{All};
@@ -9,6 +11,7 @@ ghost use Rattle.tclv_text.specs.Numbers.{whole, whole_text};
 ghost use Rattle.tclv_parse.specs.Grammar.{commands};
 ghost use Rattle.tclv_exprp.specs.ExpressionGrammar as grammar;
 ghost use Rattle.tclv_exprp.specs.ExpressionGrammar.{expression};
+ghost use Rattle.tclv_vars.specs.Clearing.{outermost, outermost_texts, IsOutermost};
 ghost use Rattle.tclv_vars.specs.Table.{no_variables, read, write, Refuses};
 ghost use Rattle.tclv_value.specs.View.{HasPlace, text_at, IsMade};
 ghost use Rattle.tclv_value.specs.Stacks.{top, under};
@@ -19,7 +22,7 @@ use std::rc::Rc;
 use tclv_exprp::{ExprFault, ExprTree};
 use tclv_model::CmdFault;
 use tclv_parse::Script;
-use tclv_reply::{Elements, list_elements};
+use tclv_reply::{Elements, list_elements, list_len};
 use tclv_text::{NoMemory, Stats, Text};
 use tclv_value::{At, Store, ValueFault};
 use tclv_vars::{Place, VarFault, Vars};
@@ -302,6 +305,57 @@ impl Values {
         list_elements(&mut self.store, list)
     }
 
+    /// How many elements the list has that the text of a place is. No text changes; where the text is
+    /// no list, the message and the error code are pushed.
+    pub fn list_len(&mut self, list: At) -> Result<u64, CmdFault>
+        requires { HasPlace self.old.store list }
+        ensures read { replies.Reads (list_of (text_at self.old.store list)) (λ ts len. len ≡ length ts) self.old.store self.new.store result }
+        ensures same { SameVariables self.old self.new }
+    {
+        list_len(&mut self.store, list)
+    }
+
+    /// Pushes an element of the list that the text of a place is, counted from 0, and says whether there
+    /// is one. It is shared and not copied. Refuses as `tclv_value::Store::push_element` does.
+    pub fn push_element(&mut self, list: At, k: u64) -> Result<bool, ValueFault>
+        requires { HasPlace self.old.store list }
+        ensures found { IfOk result (λ found.
+            IsOkAnd (elements (text_at self.old.store list)) (λ ts. IsTrue found ↔ (k < length ts))) }
+        ensures pushed { OnOk result (IsOkAnd (elements (text_at self.old.store list)) (λ ts.
+            self.new.store.stack ≡ self.old.store.stack ++ option_to_list (slice_get ts k))) }
+        ensures refused { OnErr result (self.new.store.stack ≡ self.old.store.stack) }
+        ensures same { SameVariables self.old self.new }
+    {
+        self.store.push_element(list, k)
+    }
+
+    /// Makes the text of an element of such a list, so that `lend_element` lends it, and says whether
+    /// there is one. No text changes.
+    pub fn make_element(&mut self, list: At, k: u64) -> Result<bool, ValueFault>
+        requires { HasPlace self.old.store list }
+        ensures found { IfOk result (λ found.
+            IsOkAnd (elements (text_at self.old.store list)) (λ ts. IsTrue found ↔ (k < length ts))) }
+        ensures made { IfOk result (λ found. IsTrue found → IsElementMade self.new.store list k) }
+        ensures stack { self.new.store.stack ≡ self.old.store.stack }
+        ensures stays { StaysMade self.old.store self.new.store }
+        ensures same { SameVariables self.old self.new }
+    {
+        self.store.make_element(list, k)
+    }
+
+    /// Lends the text of an element that `make_element` made. Takes no memory.
+    pub fn lend_element(&self, list: At, k: u64) -> &[u8]
+        requires place { HasPlace self.now.store list }
+        requires made { IsElementMade self.now.store list k }
+        ensures utf8 { IsText result.now }
+        ensures text { IsOkAnd (elements (text_at self.now.store list)) (λ ts. Some (chars result.now) ≡ slice_get ts k) }
+    {
+        match self.store.element_text(list, k) {
+            Some(text) => text,
+            None => unreachable!(),
+        }
+    }
+
     /// Makes one text of the top `n`: their list, the lowest of them first.
     pub fn push_list(&mut self, n: usize) -> Result<(), NoMemory>
         requires { n ≤ length self.old.store.stack }
@@ -309,6 +363,17 @@ impl Values {
         ensures same { SameVariables self.old self.new }
     {
         self.store.push_list(n)
+    }
+
+    /// Ends all frames but the global one, which is current then, each with the variables that are its
+    /// own. Takes no memory.
+    pub fn end_frames(&mut self)
+        ensures vars { self.new.vars ≡ outermost self.old.vars }
+        ensures cells { self.new.store.cells ≡ outermost_texts self.old.vars self.old.store.cells }
+        ensures global { IsOutermost self.new.vars }
+        ensures stack { self.new.store.stack ≡ self.old.store.stack }
+    {
+        self.vars.end_frames(&mut self.store);
     }
 
     /// How much work was done.

@@ -7,6 +7,7 @@ ghost use Rattle.tclv_model.specs.ErrorCodes.{error_code};
 ghost use Rattle.std.specs.Str.{chars};
 ghost use Rattle.tclv_text.specs.Texts.{IsText};
 ghost use Rattle.tclv_value.specs.View.{HasPlace, IsMade, text_at};
+ghost use Rattle.tclv_engine.specs.State.{texts_in};
 ghost use Rattle.tclv_engine.specs.Variables as spec;
 ghost use Rattle.tclv_engine.specs.Answers.{Answers, Pushes, PushesOne, KeepsStack, IsCalm, Raises, SameState, last_of, on_top};
 
@@ -64,7 +65,7 @@ impl<W> Machine<W> {
     // Pushes the text of a cell.
     fn push_cell(&mut self, cell: u64) -> Result<(), End>
         requires { HasPlace self.old.values.store (At.Cell cell) }
-        ensures answer { Answers (λ st. done (unwrap_or (get st.texts cell) []) st) on_top self.old result self.new }
+        ensures answer { Answers (λ st. done (unwrap_or (get (texts_in st) cell) []) st) on_top self.old result self.new }
         ensures stack { Pushes (text_at self.old.values.store (At.Cell cell)) self.old.values.store.stack result self.new.values.store.stack }
         ensures calm { IsCalm result }
         ensures units { self.new.units ≡ self.old.units }

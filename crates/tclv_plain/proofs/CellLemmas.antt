@@ -40,7 +40,7 @@ use Rattle.tclv_engine.specs.declared.endings.End.{End}
 use Rattle.tclv_engine.specs.declared.endings.End.TheVariants as end
 use Rattle.tclv_engine.specs.declared.machine.Machine.{Machine}
 use Rattle.tclv_engine.specs.Holdings.{Holdings, IsTied}
-use Rattle.tclv_engine.specs.State.{Text, State, state_of}
+use Rattle.tclv_engine.specs.State.{Text, State, state_of, with_variables}
 use Rattle.tclv_engine.specs.Results.{Res, Outcome, bind, done, ok, plain}
 use Rattle.tclv_engine.specs.Names.{bytes_of}
 use Rattle.tclv_engine.specs.Variables.{is_unbuilt, not_built}
@@ -269,7 +269,7 @@ module _ (row : Variable → VarAnswer) (n : ℕ) (name : List ℕ) (old new : H
 
 -- the state after
 kept_state : {W : Type 0} → (old new : (Machine W)) (w : World) (spot : Spot) (value : Text) → new.values.vars ≡ spot.after → new.values.store.cells ≡ insert old.values.store.cells spot.cell value →
-    new.own ≡ old.own → new.units ≡ old.units → new.depth ≡ old.depth → new.writes ≡ old.writes → record (state_of old w) { vars = spot.after; texts = insert old.values.store.cells spot.cell value } ≡ state_of new w
+    new.own ≡ old.own → new.units ≡ old.units → new.depth ≡ old.depth → new.writes ≡ old.writes → with_variables spot.after (insert old.values.store.cells spot.cell value) (state_of old w) ≡ state_of new w
 kept_state old new w spot value v c own units depth writes = rw (v, c, own, units, depth, writes)
 
 bind_done : {W A B : Type 0} (a : A) (st : (State W)) (next : A → (State W) → Res W B) → bind (done a st) next ≡ next a st
@@ -329,7 +329,7 @@ module _ {W : Type 0} (c : CellCommand) (call : Text) (old mid new : (Machine W)
 alone_on : {W : Type 0} → (c : CellCommand) (call : Text) (args : List Text) (st : (State W)) → args ≡ [] → bind (of_answer (row_of c call args Unset) st) (keep []) ≡ on_variable (named args) (row_of c call args) st
 alone_on c call args st e =
     ap (λ ws. bind (of_answer (row_of c call ws Unset) st) (keep [])) e
-    ∙ ap (λ a. bind (of_answer a st) (keep [])) (sym (alone_same c call (variable_seen (bytes_of []) st.vars st.texts)))
+    ∙ ap (λ a. bind (of_answer a st) (keep [])) (sym (alone_same c call (variable_seen (bytes_of []) st.tables.vars st.tables.texts)))
     ∙ ap (λ ws. on_variable (named ws) (row_of c call ws) st) (sym e)
 
 pub none_behind : (stack : List Text) → top 0 stack ≡ []
@@ -430,7 +430,7 @@ pub name_is : (bs : List ℕ) (name : Text) → bs ≡ bytes_of name → is_unbu
 name_is bs name e h = sym (ap is_unbuilt e) ∙ h
 
 pub on_built : {W : Type 0} → (name : Text) (row : Variable → VarAnswer) (st : (State W)) → is_unbuilt (bytes_of name) ≡ false →
-    bind (of_answer (row (variable_seen (bytes_of name) st.vars st.texts)) st) (keep name) ≡ on_variable name row st
+    bind (of_answer (row (variable_seen (bytes_of name) st.tables.vars st.tables.texts)) st) (keep name) ≡ on_variable name row st
 on_built name row st h = sym (cond-false _ _ _ h)
 
 pub on_unbuilt : {W : Type 0} → (bs : List ℕ) (name : Text) (row : Variable → VarAnswer) (st : (State W)) → bs ≡ bytes_of name → is_unbuilt bs ≡ true → unbuilt name (row WholeArray) st ≡ on_variable name row st

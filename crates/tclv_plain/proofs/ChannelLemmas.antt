@@ -21,6 +21,7 @@ use Rattle.tclv_engine.specs.declared.endings.End.TheVariants as end
 use Rattle.tclv_engine.specs.declared.machine.Machine.{Machine}
 use Rattle.tclv_engine.specs.Results.{Res, bind}
 use Rattle.tclv_engine.specs.State.{Text, State, state_of}
+use Rattle.tclv_engine.specs.Surroundings.{surroundings_of}
 use Rattle.tclv_engine.specs.Names.{bytes_of}
 use Rattle.tclv_engine.specs.Answers.{outer, start, Runs, returned, Caused, PushesOne}
 use Rattle.tclv_engine.proofs.Binds.{answers_as}
@@ -68,7 +69,7 @@ writes_all to c m count (b ∷ bs) told now torn after w t l k h e s = record {
     value = tt;
     ends = record {
       ending = refl;
-      state = ap (λ n. record (state_of m w) { world = record w { out = add w.out (target_of c) (b ∷ bs) }; events = n }) (sym k);
+      state = ap (λ n. record (state_of m w) { surroundings = surroundings_of (record w { out = add w.out (target_of c) (b ∷ bs) }); events = n }) (sym k);
       out = refl;
       whole = omega (arith, s);
       counted = k;

@@ -74,10 +74,10 @@ sum_too_large z name st e = sum_none (fits z) z name st e
 
 -- ---- variables that may be unset
 
-pub unset_value : {W : Type 0} → (instead name : Text) (st : (State W)) (b : Bool) → b ≡ is_unset name st.vars → b ≡ true → done instead st ≡ variable_or instead name st
+pub unset_value : {W : Type 0} → (instead name : Text) (st : (State W)) (b : Bool) → b ≡ is_unset name st.tables.vars → b ≡ true → done instead st ≡ variable_or instead name st
 unset_value instead name st b e h = sym (cond-true _ _ _ (sym e ∙ h))
 
-pub set_value : {W : Type 0} → (instead name : Text) (st : (State W)) (b : Bool) → b ≡ is_unset name st.vars → b ≡ false → variable name st ≡ variable_or instead name st
+pub set_value : {W : Type 0} → (instead name : Text) (st : (State W)) (b : Bool) → b ≡ is_unset name st.tables.vars → b ≡ false → variable name st ≡ variable_or instead name st
 set_value instead name st b e h = sym (cond-false _ _ _ (sym e ∙ h))
 
 -- a name that isn't built yet, and another, by what reading it gave

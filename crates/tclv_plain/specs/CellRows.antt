@@ -20,7 +20,7 @@ use Rattle.tclv_lists.specs.Variables.{row_lappend, row_lpop, row_lset}
 use Rattle.tclv_plain.specs.declared.cell_commands.CellCommand.{CellCommand}
 use Rattle.tclv_plain.specs.declared.cell_commands.CellCommand.TheVariants as command
 use Rattle.tclv_engine.specs.Holdings.{Holdings, SameVariables, Sets}
-use Rattle.tclv_engine.specs.State.{Text, State}
+use Rattle.tclv_engine.specs.State.{Text, State, variables_in, texts_in}
 use Rattle.tclv_engine.specs.Results.{Res, Outcome, bind, ok, error}
 use Rattle.tclv_engine.specs.Names.{bytes_of}
 use Rattle.tclv_engine.specs.Variables.{is_unbuilt, not_built, assign}
@@ -56,7 +56,7 @@ unbuilt name (Gives kept) st = not_built st
 
 abbrev pub on_variable : {W : Type 0} → Text → (Variable → VarAnswer) → (State W) → Res W Outcome
 on_variable name row st =
-    if is_unbuilt (bytes_of name) then unbuilt name (row WholeArray) st else bind (of_answer (row (variable_seen (bytes_of name) st.vars st.texts)) st) (keep name)
+    if is_unbuilt (bytes_of name) then unbuilt name (row WholeArray) st else bind (of_answer (row (variable_seen (bytes_of name) (variables_in st) (texts_in st))) st) (keep name)
 
 -- What a data command does whose row this is. Where the row refuses, the variable stays as it was.
 abbrev pub cell_row : {W : Type 0} → (Text → List Text → Variable → VarAnswer) → List Text → (State W) → Res W Outcome

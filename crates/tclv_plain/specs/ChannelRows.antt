@@ -1,10 +1,10 @@
 -- Writing on a channel, and the row of `puts`.
-use Rattle.std.specs.Prelude.{◌≡◌, ℕ, ◌+◌, if◌then◌else◌, Bool, true, false, List, [], ◌∷◌, ◌++◌, length, Result, Ok, Err, codes}
+use Rattle.std.specs.Prelude.{◌≡◌, ℕ, if◌then◌else◌, Bool, true, false, List, [], ◌∷◌, ◌++◌, Result, Ok, Err, codes}
 use Rattle.std.specs.Str.{bytes_eq}
 use Rattle.tclv_io.specs.World.{Target, Output, Errors}
 use Rattle.tclv_io.specs.declared.outside.WriteFault.{WriteFault}
 use Rattle.tclv_io.specs.declared.outside.WriteFault.TheVariants as fault
-use Rattle.tclv_io.specs.Events.{Event, Wrote, after_all}
+use Rattle.tclv_io.specs.Events.{Event, Wrote}
 use Rattle.tclv_model.specs.declared.messages.MessageId.{MessageId}
 use Rattle.tclv_model.specs.declared.messages.MessageId.TheVariants.{NotOpenForWriting, NoSuchChannel}
 use Rattle.tclv_plain.specs.declared.channels.Channel.{Channel}
@@ -14,7 +14,7 @@ use Rattle.tclv_engine.specs.declared.endings.End.TheVariants as end
 use Rattle.tclv_model.specs.declared.error_codes.ErrorCode.TheVariants.{NoCode}
 use Rattle.tclv_model.specs.declared.usages.Usage.TheVariants as command
 use Rattle.tclv_model.specs.Usages.{usage_of}
-use Rattle.tclv_engine.specs.State.{Text, State}
+use Rattle.tclv_engine.specs.State.{Text, State, with_events}
 use Rattle.tclv_engine.specs.Results.{Res, Done, Outcome, bind, ok, raise}
 use Rattle.tclv_engine.specs.Names.{bytes_of}
 use Rattle.tclv_engine.specs.Usages.{usage}
@@ -32,7 +32,7 @@ write to piece st =
     let events = events_of to piece in
     record {
       ending = Done tt;
-      after = record st { world = record st.world { out = after_all st.world.out events }; events = st.events + length events };
+      after = with_events events st;
       events = events;
     }
 

@@ -10,7 +10,7 @@ use Rattle.tclv_model.specs.declared.messages.MessageId.TheVariants.{IntegerTooL
 use Rattle.tclv_model.specs.declared.error_codes.ErrorCode.TheVariants.{Overflow}
 use Rattle.tclv_model.specs.declared.usages.Usage.TheVariants as command
 use Rattle.tclv_model.specs.Usages.{usage_of}
-use Rattle.tclv_engine.specs.State.{Text, State}
+use Rattle.tclv_engine.specs.State.{Text, State, variables_in}
 use Rattle.tclv_engine.specs.Results.{Res, Outcome, bind, done, ok, raise}
 use Rattle.tclv_engine.specs.Names.{bytes_of}
 use Rattle.tclv_engine.specs.Variables.{is_unbuilt, variable, assign}
@@ -32,7 +32,7 @@ is_unset name vars = if is_unbuilt (bytes_of name) then false else lacks_value (
 
 -- The value of the variable of this name, and `instead` where it is unset.
 abbrev pub variable_or : {W : Type 0} → Text → Text → (State W) → Res W Text
-variable_or instead name st = if is_unset name st.vars then done instead st else variable name st
+variable_or instead name st = if is_unset name (variables_in st) then done instead st else variable name st
 
 -- The variable of this name is set to a text, which is the result.
 abbrev pub assign_result : {W : Type 0} → Text → Text → (State W) → Res W Outcome

@@ -6,42 +6,55 @@ ghost use Rattle.tclv_value.specs.View.{text_at};
 ghost use Rattle.tclv_value.specs.Stacks.{top, under};
 ghost use Rattle.tclv_engine.specs.Results.{bind};
 ghost use Rattle.tclv_engine.specs.DataAnswers.{of_answer};
+ghost use Rattle.tclv_engine.specs.ListAssignment.{listed, IsList};
 ghost use Rattle.tclv_engine.specs.Answers.{Answers, IsCalm, PushesOne, PushesResult, SameState, as_result};
 ghost use Rattle.tclv_plain.specs.ListRows as spec;
 
 use crate::misuse::misused;
 use tclv_engine::{End, Machine};
 use tclv_model::Usage;
-use tclv_text::{NoMemory, Text};
+use tclv_text::NoMemory;
 use tclv_value::At;
 
-// Pushes the list of the values from a number on, which is empty where there are not so many.
-fn push_rest<W>(machine: &mut Machine<W>, values: &[Text], from: usize) -> Result<(), NoMemory>
-    ensures pushed { OnOk result (machine.new.values.store.stack ≡ machine.old.values.store.stack ++ list_text (drop from values.now) ∷ []) }
+// Pushes the list of the elements of a list from a number on, which is empty where there are not so
+// many. The list has so many elements as it says.
+fn push_rest<W>(
+    machine: &mut Machine<W>,
+    list: usize,
+    from: usize,
+    len: u64,
+) -> Result<(), NoMemory>
+    requires place { list < length machine.old.values.store.stack }
+    requires list { IsList (text_at machine.old.values.store (At.Stack list)) }
+    requires len { len ≡ length (listed (text_at machine.old.values.store (At.Stack list))) }
+    ensures pushed { OnOk result (machine.new.values.store.stack ≡ machine.old.values.store.stack ++ list_text (drop from (listed (text_at machine.old.values.store (At.Stack list)))) ∷ []) }
     ensures same { SameState machine.old machine.new }
 {
     let height = machine.values.height();
-    machine.push_values(values, from.min(values.len()))?;
+    let first = len.min(from as u64);
+    machine.push_elements(list, first, len)?;
     let count = machine.values.height() - height;
     machine.values.push_list(count)
 }
 
-// Sets the variables whose names stand above a place of the stack to values, and pushes the list
-// of the rest.
-fn assign_list<W>(machine: &mut Machine<W>, list: usize, values: &[Text]) -> Result<(), End>
-    requires { list < length machine.old.values.store.stack }
-    ensures answer { Answers (spec.assign_list (drop (list + 1) machine.old.values.store.stack) values.now) as_result machine.old result machine.new }
+// Sets the variables whose names stand above a place of the stack to the elements of the list at this
+// place, which has so many, and pushes the list of the rest.
+fn assign_list<W>(machine: &mut Machine<W>, list: usize, len: u64) -> Result<(), End>
+    requires place { list < length machine.old.values.store.stack }
+    requires list { IsList (text_at machine.old.values.store (At.Stack list)) }
+    requires len { len ≡ length (listed (text_at machine.old.values.store (At.Stack list))) }
+    ensures answer { Answers (spec.assign_list (drop (list + 1) machine.old.values.store.stack) (listed (text_at machine.old.values.store (At.Stack list)))) as_result machine.old result machine.new }
     ensures stack { PushesOne machine.old.values.store.stack result machine.new.values.store.stack }
     ensures calm { IsCalm result }
     ensures units { machine.new.units ≡ machine.old.units }
 {
     let height = machine.values.height();
-    machine.assign_places(list + 1, height, values)?;
-    push_rest(machine, values, height - (list + 1))?;
+    machine.assign_places(list + 1, height, list)?;
+    push_rest(machine, list, height - (list + 1), len)?;
     Ok(())
 }
 
-// The same, where the list is the text of the place.
+// The same, where the text of the place may be no list.
 fn assign_elements<W>(machine: &mut Machine<W>, list: usize) -> Result<(), End>
     requires { list < length machine.old.values.store.stack }
     ensures answer { Answers (λ st. bind (of_answer (list_of (text_at machine.old.values.store (At.Stack list))) st) (spec.assign_list (drop (list + 1) machine.old.values.store.stack))) as_result machine.old result machine.new }
@@ -49,8 +62,8 @@ fn assign_elements<W>(machine: &mut Machine<W>, list: usize) -> Result<(), End>
     ensures calm { IsCalm result }
     ensures units { machine.new.units ≡ machine.old.units }
 {
-    let elements = machine.elements(At::Stack(list))?;
-    assign_list(machine, list, elements.all())
+    let len = machine.list_len(At::Stack(list))?;
+    assign_list(machine, list, len)
 }
 
 /// The command `lassign list ?varName ...?`: sets the variables to the elements of the list, and

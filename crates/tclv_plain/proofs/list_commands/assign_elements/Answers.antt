@@ -1,16 +1,24 @@
-use Rattle.std.proofs.Common.{rules, ap, ◌∙◌, drop, ◌+◌}
+use Rattle.std.proofs.Common.{rules, ap, sym, ◌∙◌, [], length, get_or, drop, ◌+◌}
+use Rattle.tclv_engine.specs.ListAssignment.{listed}
+use Rattle.tclv_engine.proofs.ListLemmas.{list_stays}
 use Rattle.tclv_engine.specs.State.{state_of}
 use Rattle.tclv_plain.specs.ListRows.{assign_list}
 use Rattle.tclv_engine.proofs.Binds.{runs_as, bind_ok, then_stop}
 use Rattle.tclv_plain.proofs.list_commands.assign_elements.Goals as goal
 
-pub returns-in_err-elements-clause-answer : goal.returns-in_err-elements-clause-answer
-returns-in_err-elements-clause-answer g c here w told = then_stop _ (search rules) (c.in_err-elements.ensures.answer here w told)
+pub returns-in_err-len-clause-answer : goal.returns-in_err-len-clause-answer
+returns-in_err-len-clause-answer g c here w told = then_stop _ (search rules) (c.in_err-len.ensures.answer here w told)
+
+pub assign_list-requires-clause-list : goal.assign_list-requires-clause-list
+assign_list-requires-clause-list g c = list_stays _ _ (ap (λ s. get_or s c.args.list []) c.in_ok-len.ensures.stack) c.in_ok-len.ensures.list
+
+pub assign_list-requires-clause-len : goal.assign_list-requires-clause-len
+assign_list-requires-clause-len g c = c.in_ok-len.ensures.len ∙ ap (λ s. length (listed (get_or s c.args.list []))) (sym c.in_ok-len.ensures.stack)
 
 pub returns-clause-answer : goal.returns-clause-answer
 returns-clause-answer g c here w told =
-    bind_ok _ (c.in_ok-elements.ensures.answer here w told)
+    bind_ok _ (c.in_ok-len.ensures.answer here w told)
     (λ ts v e shown. runs_as
-    (ap (λ vs. assign_list (drop (c.args.list + 1) c.elements.new.self.values.store.stack) vs (state_of c.elements.new.self v)) (c.all.ensures ∙ shown)
-    ∙ ap (λ s. assign_list (drop (c.args.list + 1) s) ts (state_of c.elements.new.self v)) c.in_ok-elements.ensures.stack)
+    (ap (λ s. assign_list (drop (c.args.list + 1) s) (listed (get_or s c.args.list [])) (state_of c.list_len.new.self v)) c.in_ok-len.ensures.stack
+    ∙ ap (λ vs. assign_list (drop (c.args.list + 1) c.args.machine.now.values.store.stack) vs (state_of c.list_len.new.self v)) (sym shown.0))
     (c.assign_list.ensures.answer here v e))
