@@ -13,7 +13,7 @@ use Rattle.tclv_engine.specs.State.{Text, state_of}
 use Rattle.tclv_engine.specs.Answers.{Outer, Runs, Caused, Leaves, Above, start, last_of}
 use Rattle.tclv_engine.specs.Plans.{PlanOver, as_plan, concluded}
 use Rattle.tclv_engine.proofs.Leaves.{done_runs, left_runs}
-use Rattle.tclv_interp.specs.declared.commands.Tables.{Tables}
+use Rattle.tclv_interp.specs.declared.builtins.Tables.{Tables}
 use Rattle.tclv_interp.specs.declared.commands.Behind.{Behind}
 use Rattle.tclv_interp.specs.declared.commands.Behind.TheVariants.{HandOn}
 use Rattle.tclv_interp.specs.Commands.{finish, handed_on}

@@ -1,5 +1,5 @@
 -- What an interpreter answers, from how its script ended.
-use Rattle.std.proofs.Common.{◌≡◌, ℕ, List, [], Result, Ok, Err, sym, ◌∙◌, refl, subst, Some, arith}
+use Rattle.std.proofs.Common.{ap, ◌≡◌, ℕ, List, [], Result, Ok, Err, sym, ◌∙◌, refl, subst, Some, arith}
 use Rattle.std.proofs.lemmas.List.{append-nil}
 use Rattle.tclv_io.specs.World.{World}
 use Rattle.tclv_model.specs.declared.outcomes.Code.{Code}
@@ -10,16 +10,16 @@ use Rattle.tclv_engine.specs.declared.endings.End.TheVariants as end
 use Rattle.tclv_engine.specs.declared.machine.Machine.{Machine}
 use Rattle.tclv_interp.specs.declared.interpreters.Stop.{Stop}
 use Rattle.tclv_interp.specs.declared.interpreters.Stop.TheVariants as stop
-use Rattle.tclv_engine.specs.State.{Text}
+use Rattle.tclv_engine.specs.State.{Text, state_of}
 use Rattle.tclv_engine.specs.Results.{Ending, Done, Left, Outcome, carried}
-use Rattle.tclv_interp.specs.declared.commands.Tables.{Tables}
+use Rattle.tclv_interp.specs.declared.builtins.Tables.{Tables}
 use Rattle.tclv_interp.specs.Commands.{Res}
 use Rattle.tclv_engine.specs.declared.endings.Carried.{Carried}
 use Rattle.tclv_engine.specs.declared.endings.Leaving.{Leaving}
 use Rattle.std.specs.Prelude.{IfOk, OnOk, IfErr}
 use Rattle.tclv_engine.proofs.EventLemmas.{no_part}
 use Rattle.tclv_engine.specs.Answers.{Outer, Start, Ends, Cut, Gives, Runs, SameState, as_outcome, code_of, options_of, last_of, Over, Above, PushesOne, Caused}
-use Rattle.tclv_interp.specs.Interpreters.{EndsWith, Happened, CutShort, Says, Evaluates, Shows}
+use Rattle.tclv_interp.specs.Interpreters.{EndsWith, Happened, CutShort, Says, Evaluates, Shows, at_global, back_at_global}
 use Rattle.tclv_engine.proofs.Leaves.{same_state}
 
 -- all of it happened
@@ -86,6 +86,38 @@ pub evaluates : {m : Res Outcome} {w : World} {torn events : ℕ} {r : Result Ca
     Shows r mid.values.store.stack q text options → Runs m as_outcome (record { world = w; torn = torn; events = events }) r mid now → Evaluates m w torn events q text options after now
 evaluates {m} {w} {torn} {events} {r} {q} {text} {options} {now} mid after same shows h =
     record { world = h.world; told = h.told; says = says m w torn events mid after same text options h.world now.torn r q shows h.says }
+
+-- ---- the end of the frames that were left open
+
+module _ (m : Res Outcome) (w : World) (torn events : ℕ) (mid after : Machine Tables) (state : (v : World) → at_global (state_of mid v) ≡ state_of after v) (writes : after.writes ≡ mid.writes) where
+  happened-back : (v : World) (now : ℕ) → Happened m w torn events mid v now → Happened (back_at_global m) w torn events after v now
+  happened-back v now h = record { state = ap at_global h.state ∙ state v; out = h.out; whole = h.whole; counted = writes ∙ h.counted }
+
+  short-back : (part : ℕ) (v : World) (now : ℕ) → CutShort m w torn events part mid v now → CutShort (back_at_global m) w torn events part after v now
+  short-back part v now h = record {
+    first = h.first;
+    rest = h.rest;
+    split = h.split;
+    out = h.out;
+    within = h.within;
+    part_is = h.part_is;
+    counted = writes ∙ h.counted;
+  }
+
+  says-back : (r : Result Code Stop) (text : Text) (options : List Pair) (v : World) (now : ℕ) → Says m w torn events r text options mid v now → Says (back_at_global m) w torn events r text options after v now
+  says-back (Ok c) text options v now h = (h.0, happened-back v now h.1)
+  says-back (Err stop.Budget) text options v now h = (h.0, happened-back v now h.1)
+  says-back (Err (stop.Exit n)) text options v now h = (h.0, happened-back v now h.1)
+  says-back (Err stop.Device) text options v now h = (h.0, short-back h.0 v now h.1)
+  says-back (Err stop.Memory) text options v now h = short-back 0 v now h
+  says-back (Err stop.Stopped) text options v now h = h
+
+-- An evaluation behind which the frames that were left open end.
+pub evaluates_back : {m : Res Outcome} {w : World} {torn events : ℕ} {r : Result Code Stop} {text text' : Text} {options : List Pair} {now : Outer} (mid after : Machine Tables) →
+    ((v : World) → at_global (state_of mid v) ≡ state_of after v) → after.writes ≡ mid.writes → text' ≡ text → Evaluates m w torn events r text options mid now → Evaluates (back_at_global m) w torn events r text' options after now
+evaluates_back {m} {w} {torn} {events} {r} {text} {text'} {options} {now} mid after state writes e h =
+    subst (λ t. Evaluates (back_at_global m) w torn events r t options after now) (sym e)
+    (record { world = h.world; told = h.told; says = says-back m w torn events mid after state writes r text options h.world now.torn h.says })
 
 -- nothing happened before memory ran out
 pub evaluates-nothing : {m : Res Outcome} {w : World} {events : ℕ} {q : Result Code Stop} {text : Text} {options : List Pair} {after : Machine Tables} {here : Outer} →

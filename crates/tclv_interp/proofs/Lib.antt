@@ -1,4 +1,5 @@
 pub mod ArrayLemmas
+pub mod BuiltinLemmas
 pub mod CodeNumberLemmas
 pub mod CommandLemmas
 pub mod CountLemmas

@@ -1,61 +1,88 @@
 -- The commands, by their names.
-use Rattle.std.specs.Prelude.{ℕ, if◌then◌else◌, List, [], Option, Some, None, codes}
+use Rattle.std.specs.Prelude.{◌≡◌, ℕ, if◌then◌else◌, List, [], ◌∷◌, Option, Some, None, codes}
+use Rattle.std.specs.FinMap.{empty, insert, get}
 use Rattle.std.specs.Str.{bytes_eq}
 use Rattle.tclv_model.specs.declared.messages.MessageId.TheVariants as message
 use Rattle.tclv_model.specs.declared.error_codes.ErrorCode.TheVariants.{UnknownCommand}
-use Rattle.tclv_interp.specs.declared.builtins.Builtin.{Builtin}
-use Rattle.tclv_interp.specs.declared.builtins.Builtin.TheVariants as builtin
 use Rattle.tclv_plain.specs.declared.plain_commands.PlainCommand.TheVariants as plain
 use Rattle.tclv_control.specs.declared.control.ControlCommand.TheVariants as control
-use Rattle.tclv_engine.specs.State.{Text, State}
+use Rattle.tclv_names.specs.Keyed.{Named}
+use Rattle.tclv_interp.specs.declared.builtins.CommandTarget.{CommandTarget}
+use Rattle.tclv_interp.specs.declared.builtins.CommandTarget.TheVariants as target
+use Rattle.tclv_interp.specs.declared.builtins.Tables.{Tables}
+use Rattle.tclv_engine.specs.State.{Text, State, own_in}
 use Rattle.tclv_engine.specs.Results.{Res, done, raise}
 use Rattle.tclv_engine.specs.Names.{bytes_of, is_qualified}
 use Rattle.tclv_engine.specs.Variables.{not_built}
 use Rattle.tclv_plain.specs.declared.data_commands.DataCommand.TheVariants as command
 use Rattle.tclv_plain.specs.declared.cell_commands.CellCommand.TheVariants as cell
 
--- the command of a name, given as bytes
-abbrev pub builtin_of : List ℕ → Option Builtin
-builtin_of name =
-    if bytes_eq name (codes "append") then Some (builtin.Plain plain.Append) else (
-    if bytes_eq name (codes "break") then Some (builtin.Plain plain.Break) else (
-    if bytes_eq name (codes "concat") then Some (builtin.Plain (plain.Data command.Concat)) else (
-    if bytes_eq name (codes "continue") then Some (builtin.Plain plain.Continue) else (
-    if bytes_eq name (codes "eval") then Some (builtin.Control control.Eval) else (
-    if bytes_eq name (codes "exit") then Some (builtin.Plain plain.Exit) else (
-    if bytes_eq name (codes "expr") then Some (builtin.Control control.Expr) else (
-    if bytes_eq name (codes "for") then Some (builtin.Control control.For) else (
-    if bytes_eq name (codes "foreach") then Some (builtin.Control control.Foreach) else (
-    if bytes_eq name (codes "if") then Some (builtin.Control control.If) else (
-    if bytes_eq name (codes "incr") then Some (builtin.Plain plain.Incr) else (
-    if bytes_eq name (codes "join") then Some (builtin.Plain (plain.Data command.Join)) else (
-    if bytes_eq name (codes "lappend") then Some (builtin.Plain (plain.Cell cell.Lappend)) else (
-    if bytes_eq name (codes "lassign") then Some (builtin.Plain plain.Lassign) else (
-    if bytes_eq name (codes "lindex") then Some (builtin.Plain (plain.Data command.Lindex)) else (
-    if bytes_eq name (codes "linsert") then Some (builtin.Plain (plain.Data command.Linsert)) else (
-    if bytes_eq name (codes "list") then Some (builtin.Plain (plain.Data command.List)) else (
-    if bytes_eq name (codes "llength") then Some (builtin.Plain (plain.Data command.Llength)) else (
-    if bytes_eq name (codes "lmap") then Some (builtin.Control control.Lmap) else (
-    if bytes_eq name (codes "lpop") then Some (builtin.Plain (plain.Cell cell.Lpop)) else (
-    if bytes_eq name (codes "lrange") then Some (builtin.Plain (plain.Data command.Lrange)) else (
-    if bytes_eq name (codes "lremove") then Some (builtin.Plain (plain.Data command.Lremove)) else (
-    if bytes_eq name (codes "lrepeat") then Some (builtin.Plain (plain.Data command.Lrepeat)) else (
-    if bytes_eq name (codes "lreplace") then Some (builtin.Plain (plain.Data command.Lreplace)) else (
-    if bytes_eq name (codes "lreverse") then Some (builtin.Plain (plain.Data command.Lreverse)) else (
-    if bytes_eq name (codes "lsearch") then Some (builtin.Plain (plain.Data command.Lsearch)) else (
-    if bytes_eq name (codes "lseq") then Some (builtin.Plain (plain.Data command.Lseq)) else (
-    if bytes_eq name (codes "lset") then Some (builtin.Plain (plain.Cell cell.Lset)) else (
-    if bytes_eq name (codes "lsort") then Some (builtin.Plain (plain.Data command.Lsort)) else (
-    if bytes_eq name (codes "puts") then Some (builtin.Plain plain.Puts) else (
-    if bytes_eq name (codes "set") then Some (builtin.Plain plain.Set) else (
-    if bytes_eq name (codes "split") then Some (builtin.Plain (plain.Data command.Split)) else (
-    if bytes_eq name (codes "switch") then Some (builtin.Control control.Switch) else (
-    if bytes_eq name (codes "while") then Some (builtin.Control control.While) else None)))))))))))))))))))))))))))))))))
+-- the commands that are built in, each with its name as bytes
+unfoldable pub built_in : List (List ℕ × CommandTarget)
+built_in =
+    (codes "append", target.Plain plain.Append) ∷
+    (codes "break", target.Plain plain.Break) ∷
+    (codes "concat", target.Plain (plain.Data command.Concat)) ∷
+    (codes "continue", target.Plain plain.Continue) ∷
+    (codes "eval", target.Control control.Eval) ∷
+    (codes "exit", target.Plain plain.Exit) ∷
+    (codes "expr", target.Control control.Expr) ∷
+    (codes "for", target.Control control.For) ∷
+    (codes "foreach", target.Control control.Foreach) ∷
+    (codes "if", target.Control control.If) ∷
+    (codes "incr", target.Plain plain.Incr) ∷
+    (codes "join", target.Plain (plain.Data command.Join)) ∷
+    (codes "lappend", target.Plain (plain.Cell cell.Lappend)) ∷
+    (codes "lassign", target.Plain plain.Lassign) ∷
+    (codes "lindex", target.Plain (plain.Data command.Lindex)) ∷
+    (codes "linsert", target.Plain (plain.Data command.Linsert)) ∷
+    (codes "list", target.Plain (plain.Data command.List)) ∷
+    (codes "llength", target.Plain (plain.Data command.Llength)) ∷
+    (codes "lmap", target.Control control.Lmap) ∷
+    (codes "lpop", target.Plain (plain.Cell cell.Lpop)) ∷
+    (codes "lrange", target.Plain (plain.Data command.Lrange)) ∷
+    (codes "lremove", target.Plain (plain.Data command.Lremove)) ∷
+    (codes "lrepeat", target.Plain (plain.Data command.Lrepeat)) ∷
+    (codes "lreplace", target.Plain (plain.Data command.Lreplace)) ∷
+    (codes "lreverse", target.Plain (plain.Data command.Lreverse)) ∷
+    (codes "lsearch", target.Plain (plain.Data command.Lsearch)) ∷
+    (codes "lseq", target.Plain (plain.Data command.Lseq)) ∷
+    (codes "lset", target.Plain (plain.Cell cell.Lset)) ∷
+    (codes "lsort", target.Plain (plain.Data command.Lsort)) ∷
+    (codes "puts", target.Plain plain.Puts) ∷
+    (codes "set", target.Plain plain.Set) ∷
+    (codes "split", target.Plain (plain.Data command.Split)) ∷
+    (codes "switch", target.Control control.Switch) ∷
+    (codes "while", target.Control control.While) ∷
+    []
 
--- A name stands for its command. Qualified names aren't built yet.
-abbrev pub resolved : {W : Type 0} → Option Builtin → Text → State W → Res W Builtin
-resolved (Some b) name st = done b st
+-- the first of them that has this name
+abbrev pub named_in : List (List ℕ × CommandTarget) → List ℕ → Option CommandTarget
+named_in [] name = None
+named_in (p ∷ ps) name = if bytes_eq name p.0 then Some p.1 else named_in ps name
+
+abbrev pub builtin_of : List ℕ → Option CommandTarget
+builtin_of name = named_in built_in name
+
+-- ---- what names stand for
+
+-- a table in which each of these commands has its name; of several of one name the first counts
+abbrev pub commands_of : {K : Type 0} → (K → List ℕ) → List (K × CommandTarget) → Named CommandTarget
+commands_of bytes [] = empty
+commands_of bytes (p ∷ ps) = insert (commands_of bytes ps) (bytes p.0) p.1
+
+-- the tables of a new interpreter
+abbrev pub new_tables : Tables
+new_tables = record { commands = commands_of (λ name. name) built_in }
+
+-- There a name stands for the command that is built in under it, and for nothing where there is none.
+abbrev pub StandsForBuiltin : List ℕ → Type 0
+StandsForBuiltin name = get new_tables.commands name ≡ builtin_of name
+
+-- A name stands for its target. Qualified names aren't built yet.
+abbrev pub resolved : Option CommandTarget → Text → State Tables → Res Tables CommandTarget
+resolved (Some t) name st = done t st
 resolved None name st = raise message.UnknownCommand name [] UnknownCommand st
 
-abbrev pub resolve : {W : Type 0} → Text → State W → Res W Builtin
-resolve name st = if is_qualified (bytes_of name) then not_built st else resolved (builtin_of (bytes_of name)) name st
+abbrev pub resolve : Text → State Tables → Res Tables CommandTarget
+resolve name st = if is_qualified (bytes_of name) then not_built st else resolved (get (own_in st).commands (bytes_of name)) name st

@@ -10,11 +10,11 @@ use Rattle.tclv_engine.specs.declared.endings.Ended.TheVariants as ended
 use Rattle.tclv_engine.specs.declared.endings.Leaving.TheVariants as leaving
 use Rattle.tclv_engine.specs.declared.plans.Plan.{Plan}
 use Rattle.tclv_engine.specs.declared.plans.Plan.TheVariants as plan
-use Rattle.tclv_interp.specs.declared.commands.Tables.{Tables}
+use Rattle.tclv_interp.specs.declared.builtins.Tables.{Tables}
 use Rattle.tclv_interp.specs.declared.commands.Behind.{Behind}
 use Rattle.tclv_interp.specs.declared.commands.Behind.TheVariants.{HandOn}
-use Rattle.tclv_interp.specs.declared.builtins.Builtin.{Builtin}
-use Rattle.tclv_interp.specs.declared.builtins.Builtin.TheVariants as builtin
+use Rattle.tclv_interp.specs.declared.builtins.CommandTarget.{CommandTarget}
+use Rattle.tclv_interp.specs.declared.builtins.CommandTarget.TheVariants as target
 use Rattle.tclv_engine.specs.State.{Text}
 use Rattle.tclv_engine.specs.State as engine
 use Rattle.tclv_engine.specs.Results as results
@@ -45,15 +45,15 @@ finished r = bind r (λ o st. done (Finished o) st)
 abbrev pub wanted_plain : PlainCommand → List Text → State → Res (Wanted Behind)
 wanted_plain c words st = finished (plain_row c words st)
 
--- what each command wants, by its row
-abbrev pub wanted : Builtin → List Text → State → Res (Wanted Behind)
-wanted (builtin.Plain c) words st = wanted_plain c words st
-wanted (builtin.Control c) words st = control_wanted HandOn c words st
+-- what the target of a name wants: a command, by its row
+abbrev pub wanted : CommandTarget → List Text → State → Res (Wanted Behind)
+wanted (target.Plain c) words st = wanted_plain c words st
+wanted (target.Control c) words st = control_wanted HandOn c words st
 
 -- The first of the words names the command.
 unfoldable pub plan_of : List Text → State → Res (Wanted Behind)
 plan_of [] st = done (Finished (plain [])) st
-plan_of (name ∷ args) st = bind (resolve name st) (λ b s1. wanted b (name ∷ args) s1)
+plan_of (name ∷ args) st = bind (resolve name st) (λ t s1. wanted t (name ∷ args) s1)
 
 -- The outcome of a script is the command's.
 abbrev pub hand_on : Code → Text → List Pair → State → Res (Wanted Behind)

@@ -9,18 +9,21 @@ use Rattle.tclv_model.specs.declared.outcomes.Code.TheVariants as code
 use Rattle.tclv_model.specs.declared.outcomes.Pair.{Pair}
 use Rattle.tclv_value.specs.View.{text_at}
 use Rattle.tclv_value.specs.declared.places.At.{At}
+use Rattle.tclv_vars.specs.Clearing.{outermost, outermost_texts}
 use Rattle.tclv_vars.specs.Table.{Table, no_variables, HoldsArray}
 use Rattle.tclv_interp.specs.declared.interpreters.Interp.{Interp}
 use Rattle.tclv_interp.specs.declared.interpreters.Stop.{Stop}
 use Rattle.tclv_interp.specs.declared.interpreters.Stop.TheVariants as stop
 use Rattle.tclv_engine.specs.declared.machine.Machine.{Machine}
-use Rattle.tclv_engine.specs.State.{Text, state_of}
+use Rattle.tclv_engine.specs.Surroundings.{surroundings_of}
+use Rattle.tclv_engine.specs.State.{Text, state_of, variables_in, texts_in, with_variables}
 use Rattle.tclv_engine.specs.Results.{Ending, Done, Left, Budget, Exit, Outcome, carried}
 use Rattle.tclv_engine.specs.declared.endings.Carried.{Carried}
 use Rattle.tclv_engine.specs.declared.endings.End.{End}
 use Rattle.tclv_engine.specs.declared.endings.End.TheVariants as end
 use Rattle.tclv_engine.specs.Evaluation.{text, whole}
-use Rattle.tclv_interp.specs.declared.commands.Tables.{Tables}
+use Rattle.tclv_interp.specs.declared.builtins.Tables.{Tables}
+use Rattle.tclv_interp.specs.Builtins.{new_tables}
 use Rattle.tclv_interp.specs.Commands.{State, Res, shell}
 use Rattle.tclv_engine.specs.Answers.{Outer, code_of, options_of, last_of}
 
@@ -30,7 +33,13 @@ state_over i w = state_of i.machine w
 
 -- the state of a new interpreter: no variables, and all units
 abbrev pub blank : ℕ → World → State
-blank budget w = record { vars = no_variables; texts = empty; own = record {}; world = w; events = 0; units = budget; depth = 0 }
+blank budget w = record {
+  tables = record { vars = no_variables; texts = empty; own = new_tables };
+  surroundings = surroundings_of w;
+  events = 0;
+  units = budget;
+  depth = 0;
+}
 
 -- no variable is an array
 abbrev pub HasNoArrays : Table → Type 0
@@ -60,9 +69,21 @@ options_at i = i.options
 abbrev pub is_stopped : Interp → Bool
 is_stopped i = i.stopped
 
--- the evaluation of a text as a script, from a state
+-- Frames that were left open end, and the global one is current.
+abbrev pub at_global : State → State
+at_global st = with_variables (outermost (variables_in st)) (outermost_texts (variables_in st) (texts_in st)) st
+
+-- however a computation ended, stopped or not
+abbrev pub back_at_global : Res Outcome → Res Outcome
+back_at_global r = record { ending = r.ending; after = at_global r.after; events = r.events }
+
+-- a text as a script, from a state
+abbrev pub as_script : Text → State → Res Outcome
+as_script t st = text (whole shell) t st
+
+-- its evaluation. A stop leaves frames open, since nothing is done behind it; they end here.
 abbrev pub evaluation : Text → State → Res Outcome
-evaluation t st = text (whole shell) t st
+evaluation t st = back_at_global (as_script t st)
 
 -- ---- what an evaluation answers
 

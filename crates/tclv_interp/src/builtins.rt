@@ -1,72 +1,157 @@
 // The commands that are built in.
-ghost use Rattle.std.specs.Prelude.{◌≡◌, ◌<◌, ◌≤◌, ◌-◌, [], length, slice_index_or};
-ghost use Rattle.tclv_text.specs.Texts.{IsText};
+ghost use Rattle.std.specs.Prelude.{◌≡◌, ◌<◌, ◌≤◌, ◌-◌, [], length, slice_index_or, IfOk, OnOk};
+ghost use Rattle.std.specs.FinMap as finite;
 ghost use Rattle.tclv_value.specs.View.{HasPlace, IsMade, text_at};
 ghost use Rattle.tclv_interp.specs.Builtins as spec;
 ghost use Rattle.tclv_engine.specs.Answers.{Answers, KeepsStack, IsCalm, returned};
 
+use std::alloc::Global;
 use tclv_control::ControlCommand;
 use tclv_engine::{End, Machine, is_qualified};
 use tclv_model::{ErrorCode, MessageId};
+use tclv_names::Names;
 use tclv_plain::{CellCommand, DataCommand, PlainCommand};
-use tclv_text::as_str;
+use tclv_text::NoMemory;
 use tclv_value::At;
 
-/// A command that is built in.
+/// What a name of a command stands for: a command that is built in.
 #[derive(Clone, Copy, Debug, PartialEq, Eq)]
-pub enum Builtin {
+pub enum CommandTarget {
     /// One that evaluates no script.
     Plain(PlainCommand),
     /// One that wants scripts or expressions evaluated.
     Control(ControlCommand),
 }
 
-/// The command of a name.
-pub fn builtin_of(name: &[u8]) -> Option<Builtin>
-    requires { IsText name.now }
-    ensures { result ≡ spec.builtin_of name.now }
+/// The tables that the commands keep of their own.
+#[derive(Drop)]
+pub struct Tables {
+    /// What each name of a command stands for.
+    pub commands: Names<CommandTarget>,
+}
+
+/// The commands that are built in, by their names.
+const BUILTINS: [(&[u8], CommandTarget); 34] = [
+    (b"append", CommandTarget::Plain(PlainCommand::Append)),
+    (b"break", CommandTarget::Plain(PlainCommand::Break)),
+    (
+        b"concat",
+        CommandTarget::Plain(PlainCommand::Data(DataCommand::Concat)),
+    ),
+    (b"continue", CommandTarget::Plain(PlainCommand::Continue)),
+    (b"eval", CommandTarget::Control(ControlCommand::Eval)),
+    (b"exit", CommandTarget::Plain(PlainCommand::Exit)),
+    (b"expr", CommandTarget::Control(ControlCommand::Expr)),
+    (b"for", CommandTarget::Control(ControlCommand::For)),
+    (b"foreach", CommandTarget::Control(ControlCommand::Foreach)),
+    (b"if", CommandTarget::Control(ControlCommand::If)),
+    (b"incr", CommandTarget::Plain(PlainCommand::Incr)),
+    (
+        b"join",
+        CommandTarget::Plain(PlainCommand::Data(DataCommand::Join)),
+    ),
+    (
+        b"lappend",
+        CommandTarget::Plain(PlainCommand::Cell(CellCommand::Lappend)),
+    ),
+    (b"lassign", CommandTarget::Plain(PlainCommand::Lassign)),
+    (
+        b"lindex",
+        CommandTarget::Plain(PlainCommand::Data(DataCommand::Lindex)),
+    ),
+    (
+        b"linsert",
+        CommandTarget::Plain(PlainCommand::Data(DataCommand::Linsert)),
+    ),
+    (
+        b"list",
+        CommandTarget::Plain(PlainCommand::Data(DataCommand::List)),
+    ),
+    (
+        b"llength",
+        CommandTarget::Plain(PlainCommand::Data(DataCommand::Llength)),
+    ),
+    (b"lmap", CommandTarget::Control(ControlCommand::Lmap)),
+    (
+        b"lpop",
+        CommandTarget::Plain(PlainCommand::Cell(CellCommand::Lpop)),
+    ),
+    (
+        b"lrange",
+        CommandTarget::Plain(PlainCommand::Data(DataCommand::Lrange)),
+    ),
+    (
+        b"lremove",
+        CommandTarget::Plain(PlainCommand::Data(DataCommand::Lremove)),
+    ),
+    (
+        b"lrepeat",
+        CommandTarget::Plain(PlainCommand::Data(DataCommand::Lrepeat)),
+    ),
+    (
+        b"lreplace",
+        CommandTarget::Plain(PlainCommand::Data(DataCommand::Lreplace)),
+    ),
+    (
+        b"lreverse",
+        CommandTarget::Plain(PlainCommand::Data(DataCommand::Lreverse)),
+    ),
+    (
+        b"lsearch",
+        CommandTarget::Plain(PlainCommand::Data(DataCommand::Lsearch)),
+    ),
+    (
+        b"lseq",
+        CommandTarget::Plain(PlainCommand::Data(DataCommand::Lseq)),
+    ),
+    (
+        b"lset",
+        CommandTarget::Plain(PlainCommand::Cell(CellCommand::Lset)),
+    ),
+    (
+        b"lsort",
+        CommandTarget::Plain(PlainCommand::Data(DataCommand::Lsort)),
+    ),
+    (b"puts", CommandTarget::Plain(PlainCommand::Puts)),
+    (b"set", CommandTarget::Plain(PlainCommand::Set)),
+    (
+        b"split",
+        CommandTarget::Plain(PlainCommand::Data(DataCommand::Split)),
+    ),
+    (b"switch", CommandTarget::Control(ControlCommand::Switch)),
+    (b"while", CommandTarget::Control(ControlCommand::While)),
+];
+
+// Gives each of these commands its name, the last first.
+fn fill(
+    alloc: Global,
+    commands: &mut Names<CommandTarget>,
+    table: &[(&[u8], CommandTarget)],
+) -> Result<(), NoMemory>
+    requires { commands.old ≡ finite.empty }
+    ensures { OnOk result (commands.new ≡ spec.commands_of (λ name. name.now) table.now) }
 {
-    match as_str(name) {
-        "append" => Some(Builtin::Plain(PlainCommand::Append)),
-        "break" => Some(Builtin::Plain(PlainCommand::Break)),
-        "concat" => Some(Builtin::Plain(PlainCommand::Data(DataCommand::Concat))),
-        "continue" => Some(Builtin::Plain(PlainCommand::Continue)),
-        "eval" => Some(Builtin::Control(ControlCommand::Eval)),
-        "exit" => Some(Builtin::Plain(PlainCommand::Exit)),
-        "expr" => Some(Builtin::Control(ControlCommand::Expr)),
-        "for" => Some(Builtin::Control(ControlCommand::For)),
-        "foreach" => Some(Builtin::Control(ControlCommand::Foreach)),
-        "if" => Some(Builtin::Control(ControlCommand::If)),
-        "incr" => Some(Builtin::Plain(PlainCommand::Incr)),
-        "join" => Some(Builtin::Plain(PlainCommand::Data(DataCommand::Join))),
-        "lappend" => Some(Builtin::Plain(PlainCommand::Cell(CellCommand::Lappend))),
-        "lassign" => Some(Builtin::Plain(PlainCommand::Lassign)),
-        "lindex" => Some(Builtin::Plain(PlainCommand::Data(DataCommand::Lindex))),
-        "linsert" => Some(Builtin::Plain(PlainCommand::Data(DataCommand::Linsert))),
-        "list" => Some(Builtin::Plain(PlainCommand::Data(DataCommand::List))),
-        "llength" => Some(Builtin::Plain(PlainCommand::Data(DataCommand::Llength))),
-        "lmap" => Some(Builtin::Control(ControlCommand::Lmap)),
-        "lpop" => Some(Builtin::Plain(PlainCommand::Cell(CellCommand::Lpop))),
-        "lrange" => Some(Builtin::Plain(PlainCommand::Data(DataCommand::Lrange))),
-        "lremove" => Some(Builtin::Plain(PlainCommand::Data(DataCommand::Lremove))),
-        "lrepeat" => Some(Builtin::Plain(PlainCommand::Data(DataCommand::Lrepeat))),
-        "lreplace" => Some(Builtin::Plain(PlainCommand::Data(DataCommand::Lreplace))),
-        "lreverse" => Some(Builtin::Plain(PlainCommand::Data(DataCommand::Lreverse))),
-        "lsearch" => Some(Builtin::Plain(PlainCommand::Data(DataCommand::Lsearch))),
-        "lseq" => Some(Builtin::Plain(PlainCommand::Data(DataCommand::Lseq))),
-        "lset" => Some(Builtin::Plain(PlainCommand::Cell(CellCommand::Lset))),
-        "lsort" => Some(Builtin::Plain(PlainCommand::Data(DataCommand::Lsort))),
-        "puts" => Some(Builtin::Plain(PlainCommand::Puts)),
-        "set" => Some(Builtin::Plain(PlainCommand::Set)),
-        "split" => Some(Builtin::Plain(PlainCommand::Data(DataCommand::Split))),
-        "switch" => Some(Builtin::Control(ControlCommand::Switch)),
-        "while" => Some(Builtin::Control(ControlCommand::While)),
-        _ => None,
+    for i in 0..table.len() {
+        let (name, target) = table[table.len() - 1 - i];
+        commands.put(alloc, name, target)?;
+    }
+    Ok(())
+}
+
+impl Tables {
+    /// The tables of a new interpreter: each command that is built in has its name, and no other name
+    /// stands for one.
+    pub fn new(alloc: Global) -> Result<Tables, NoMemory>
+        ensures { IfOk result (λ t. t ≡ spec.new_tables) }
+    {
+        let mut commands = Names::new(alloc);
+        fill(alloc, &mut commands, &BUILTINS)?;
+        Ok(Tables { commands })
     }
 }
 
-/// The command that the lowest of the top n texts names.
-pub fn resolve<W>(machine: &mut Machine<W>, n: usize) -> Result<Builtin, End>
+/// What the lowest of the top n texts stands for, as the name of a command.
+pub fn resolve(machine: &mut Machine<Tables>, n: usize) -> Result<CommandTarget, End>
     requires words { n ≤ length machine.old.values.store.stack }
     requires some { 0 < n }
     ensures answer { Answers (spec.resolve (slice_index_or machine.old.values.store.stack (length machine.old.values.store.stack - n) [])) returned machine.old result machine.new }
@@ -79,8 +164,8 @@ pub fn resolve<W>(machine: &mut Machine<W>, n: usize) -> Result<Builtin, End>
     resolve_made(machine, name)
 }
 
-// The command that the text of a place names, which is made.
-fn resolve_made<W>(machine: &mut Machine<W>, name: At) -> Result<Builtin, End>
+// What the text of a place stands for, which is made.
+fn resolve_made(machine: &mut Machine<Tables>, name: At) -> Result<CommandTarget, End>
     requires place { HasPlace machine.old.values.store name }
     requires made { IsMade machine.old.values.store name }
     ensures answer { Answers (spec.resolve (text_at machine.old.values.store name)) returned machine.old result machine.new }
@@ -91,8 +176,8 @@ fn resolve_made<W>(machine: &mut Machine<W>, name: At) -> Result<Builtin, End>
     if is_qualified(machine.values.lend(name)) {
         return Err(machine.not_built());
     }
-    match builtin_of(machine.values.lend(name)) {
-        Some(builtin) => Ok(builtin),
+    match machine.own.commands.get(machine.values.lend(name)) {
+        Some(target) => Ok(target),
         None => Err(machine.raise_at(
             MessageId::UnknownCommand,
             name,

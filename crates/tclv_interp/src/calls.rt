@@ -5,13 +5,15 @@ ghost use Rattle.tclv_text.specs.Numbers.{whole_text};
 ghost use Rattle.tclv_text.specs.Texts.{IsText};
 ghost use Rattle.tclv_io.specs.World.{World};
 ghost use Rattle.tclv_value.specs.View.{HasPlace};
+ghost use Rattle.tclv_vars.specs.Clearing.{IsOutermost};
 ghost use Rattle.tclv_engine.specs.Answers as answers;
 ghost use Rattle.tclv_engine.specs.Answers.{outer, AtWorld, HasResult, SameState, last_of};
 ghost use Rattle.tclv_engine.specs.Results.{option, code_number, code_options, carried, error_options};
 ghost use Rattle.tclv_engine.specs.Variables.{assign, is_unbuilt};
-ghost use Rattle.tclv_interp.specs.Interpreters.{state_over, blank, HasNoArrays, variables_of, writes_of, evaluation, script_at, result_of, options_at, is_stopped, Evaluates, Shows, StopCause, StopsAt};
+ghost use Rattle.tclv_interp.specs.Interpreters.{state_over, blank, HasNoArrays, variables_of, writes_of, evaluation, as_script, script_at, result_of, options_at, is_stopped, Evaluates, Shows, StopCause, StopsAt};
 
-use crate::commands::{Commands, Tables};
+use crate::builtins::Tables;
+use crate::commands::Commands;
 use crate::interpreters::{Interp, Stop};
 use std::alloc::Global;
 use tclv_engine::{Carried, End, Leaving, Machine, Values};
@@ -149,11 +151,12 @@ impl Interp {
     {
         let mut values = Values::new(alloc)?;
         values.push_text(b"")?;
+        let own = Tables::new(alloc)?;
         Ok(Interp {
             machine: Machine {
                 alloc,
                 values,
-                own: Tables {},
+                own,
                 units: budget,
                 depth: 0,
                 writes: 0,
@@ -201,6 +204,7 @@ impl Interp {
 
     /// Evaluates the text of a place as a script, at the global level, and gives the code that it ends
     /// with. The place is one that `push_script` gave. The result of the last evaluation goes first.
+    /// Frames that a stop leaves open end, however the evaluation ended.
     ///
     /// Answers `Budget` where no unit was left for a command, `Exit` where the script asked for the
     /// end of the run, `Device` where a device failed, and `Memory` where memory ran out; and from
@@ -209,6 +213,7 @@ impl Interp {
         requires { is_stopped self.old ≡ false → HasPlace self.old.machine.values.store at }
         ensures answer { is_stopped self.old ≡ false → AtWorld (outer (O.told out.old) (O.torn out.old)) (λ w. Evaluates (evaluation (script_at self.old at) (state_over self.old w)) w (O.torn out.old) (writes_of self.old) result (result_of self.new) (options_at self.new) self.new.machine (outer (O.told out.new) (O.torn out.new))) }
         ensures cause { StopCause (O.faults out.old) (O.faults out.new) result }
+        ensures frames { is_stopped self.old ≡ false → IsOutermost (variables_of self.new) }
         ensures stops { StopsAt result self.new }
         ensures options { OnErr result (options_at self.new ≡ []) }
         ensures stopped { result ≡ Err Stop.Stopped ↔ is_stopped self.old ≡ true }
@@ -219,7 +224,9 @@ impl Interp {
         }
         self.options = Options::new(self.machine.alloc);
         self.stopped = true;
-        self.run(at, out)
+        let ended = self.run(at, out);
+        self.machine.values.end_frames();
+        ended
     }
 
     // Evaluates the text of a place, and keeps what it ends with.
@@ -227,7 +234,7 @@ impl Interp {
         requires place { HasPlace self.old.machine.values.store at }
         requires some { 0 < length self.old.machine.values.store.stack }
         requires stopped { is_stopped self.old ≡ true }
-        ensures answer { AtWorld (outer (O.told out.old) (O.torn out.old)) (λ w. Evaluates (evaluation (script_at self.old at) (state_over self.old w)) w (O.torn out.old) (writes_of self.old) result (result_of self.new) (options_at self.new) self.new.machine (outer (O.told out.new) (O.torn out.new))) }
+        ensures answer { AtWorld (outer (O.told out.old) (O.torn out.old)) (λ w. Evaluates (as_script (script_at self.old at) (state_over self.old w)) w (O.torn out.old) (writes_of self.old) result (result_of self.new) (options_at self.new) self.new.machine (outer (O.told out.new) (O.torn out.new))) }
         ensures cause { StopCause (O.faults out.old) (O.faults out.new) result }
         ensures some { OnOk result (0 < length self.new.machine.values.store.stack) }
         ensures stops { StopsAt result self.new }

@@ -5,16 +5,12 @@ ghost use Rattle.tclv_engine.specs.Answers.{AnswersOver, Caused, Leaves, last_of
 ghost use Rattle.tclv_engine.specs.Plans.{PlanOver, as_plan, concluded};
 ghost use Rattle.tclv_interp.specs.Commands as spec;
 
-use crate::builtins::{Builtin, resolve};
+use crate::builtins::{CommandTarget, Tables, resolve};
 use tclv_control::plan_control;
 use tclv_engine::{Carried, End, Ended, Host, Leaving, Machine, Plan};
 use tclv_io::Outside;
 use tclv_model::Code;
 use tclv_plain::{PlainCommand, run_plain};
-
-/// The tables that the commands keep of their own.
-#[derive(Drop)]
-pub struct Tables {}
 
 /// What is done behind a script.
 #[derive(Clone, Copy, Debug, PartialEq, Eq)]
@@ -44,24 +40,24 @@ fn plan_plain<O: Outside>(
     Ok(Plan::Finished(Carried::Plain))
 }
 
-// What a command that is built in wants done, whose words are the top n texts.
+// What the target of a name wants done, whose words are the top n texts.
 #[tactic(auto, using(tclv_engine::proofs::Binds::calm_caused))]
-fn plan_builtin<O: Outside>(
+fn plan_target<O: Outside>(
     machine: &mut Machine<Tables>,
     out: &mut O,
-    builtin: Builtin,
+    target: CommandTarget,
     n: usize,
 ) -> Result<Plan<Behind>, End>
     requires words { n ≤ length machine.old.values.store.stack }
     requires some { 0 < n }
-    ensures answer { AnswersOver (spec.wanted builtin (top n machine.old.values.store.stack)) as_plan machine.old (outer (O.told out.old) (O.torn out.old)) result machine.new (outer (O.told out.new) (O.torn out.new)) }
+    ensures answer { AnswersOver (spec.wanted target (top n machine.old.values.store.stack)) as_plan machine.old (outer (O.told out.old) (O.torn out.old)) result machine.new (outer (O.told out.new) (O.torn out.new)) }
     ensures stack { Leaves (PlanOver (under n machine.old.values.store.stack)) (under n machine.old.values.store.stack) result machine.new.values.store.stack }
     ensures cause { Caused (O.faults out.old) (O.faults out.new) result }
     ensures units { machine.new.units ≡ machine.old.units }
 {
-    match builtin {
-        Builtin::Plain(command) => plan_plain(machine, out, command, n),
-        Builtin::Control(command) => plan_control(machine, command, n, Behind::HandOn),
+    match target {
+        CommandTarget::Plain(command) => plan_plain(machine, out, command, n),
+        CommandTarget::Control(command) => plan_control(machine, command, n, Behind::HandOn),
     }
 }
 
@@ -79,8 +75,8 @@ fn plan<O: Outside>(
     ensures cause { Caused (O.faults out.old) (O.faults out.new) result }
     ensures units { machine.new.units ≡ machine.old.units }
 {
-    let builtin = resolve(machine, n)?;
-    plan_builtin(machine, out, builtin, n)
+    let target = resolve(machine, n)?;
+    plan_target(machine, out, target, n)
 }
 
 // Hands on how a script ended, as the command's outcome.

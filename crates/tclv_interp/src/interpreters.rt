@@ -1,7 +1,7 @@
 // The interpreter, and why it stops.
 ghost use Rattle.std.specs.Prelude.{◌≡◌, ◌<◌, [], false, true, length};
 
-use crate::commands::Tables;
+use crate::builtins::Tables;
 use tclv_engine::Machine;
 use tclv_model::Options;
 use tclv_text::NoMemory;

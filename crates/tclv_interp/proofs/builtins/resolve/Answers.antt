@@ -9,10 +9,10 @@ use Rattle.tclv_engine.proofs.HoldingsLemmas.{same_text}
 use Rattle.tclv_interp.proofs.builtins.resolve.Goals as goal
 
 pub returns-in_err-make_text-clause-answer : goal.returns-in_err-make_text-clause-answer
-returns-in_err-make_text-clause-answer g c here w told = memory_runs (search rules) told refl
+returns-in_err-make_text-clause-answer c here w told = memory_runs (search rules) told refl
 
 pub returns-clause-answer : goal.returns-clause-answer
-returns-clause-answer g c here w told =
+returns-clause-answer c here w told =
     let mid = record c.args.machine.now { values = c.make_text.new.self } in
     let stack = c.args.machine.now.values.store.stack in
     from_same c.args.machine.now mid (resolve (slice_index_or stack (length stack - c.args.n) [])) (search rules)

@@ -10,16 +10,16 @@ use Rattle.tclv_interp.proofs.CommandLemmas.{resolve-qualified, resolve-plain}
 use Rattle.tclv_interp.proofs.builtins.resolve_made.Goals as goal
 
 pub returns-then-is_qualified-clause-answer : goal.returns-then-is_qualified-clause-answer
-returns-then-is_qualified-clause-answer g c here w told =
+returns-then-is_qualified-clause-answer c here w told =
     runs_as (resolve-qualified c.lend.result.now (text_at c.args.machine.now.values.store c.args.name) (state_of c.args.machine.now w) (bytes-are _ _ c.lend.ensures.utf8 c.lend.ensures.text) (sym c.is_qualified.ensures ∙ c.if-is_qualified.true))
     (raise_runs c.args.machine.now told c.not_built.ensures.same c.not_built.ensures.raises)
 
 pub returns-in-Some-clause-answer : goal.returns-in-Some-clause-answer
-returns-in-Some-clause-answer g c here w told =
-    runs_as (resolve-plain c.lend.result.now c.lend-2.result.now (text_at c.args.machine.now.values.store c.args.name) (state_of c.args.machine.now w) _ (bytes-are _ _ c.lend.ensures.utf8 c.lend.ensures.text) (bytes-are _ _ c.lend-2.ensures.utf8 c.lend-2.ensures.text) (sym c.is_qualified.ensures ∙ c.if-is_qualified.false) (sym c.builtin_of.ensures ∙ c.in-Some.is))
+returns-in-Some-clause-answer c here w told =
+    runs_as (resolve-plain c.lend.result.now c.lend-2.result.now (text_at c.args.machine.now.values.store c.args.name) (state_of c.args.machine.now w) _ (bytes-are _ _ c.lend.ensures.utf8 c.lend.ensures.text) (bytes-are _ _ c.lend-2.ensures.utf8 c.lend-2.ensures.text) (sym c.is_qualified.ensures ∙ c.if-is_qualified.false) (sym c.get.ensures.value ∙ c.in-Some.is))
     (value_runs c.args.machine.now told (search rules) refl)
 
 pub returns-in-None-clause-answer : goal.returns-in-None-clause-answer
-returns-in-None-clause-answer g c here w told =
-    runs_as (resolve-plain c.lend.result.now c.lend-2.result.now (text_at c.args.machine.now.values.store c.args.name) (state_of c.args.machine.now w) _ (bytes-are _ _ c.lend.ensures.utf8 c.lend.ensures.text) (bytes-are _ _ c.lend-2.ensures.utf8 c.lend-2.ensures.text) (sym c.is_qualified.ensures ∙ c.if-is_qualified.false) (sym c.builtin_of.ensures ∙ c.in-None.is))
+returns-in-None-clause-answer c here w told =
+    runs_as (resolve-plain c.lend.result.now c.lend-2.result.now (text_at c.args.machine.now.values.store c.args.name) (state_of c.args.machine.now w) _ (bytes-are _ _ c.lend.ensures.utf8 c.lend.ensures.text) (bytes-are _ _ c.lend-2.ensures.utf8 c.lend-2.ensures.text) (sym c.is_qualified.ensures ∙ c.if-is_qualified.false) (sym c.get.ensures.value ∙ c.in-None.is))
     (raise_first c.args.machine.now message.UnknownCommand message.UnknownCommand _ UnknownCommand UnknownCommand told c.raise_at.ensures.same refl refl c.raise_at.ensures.raises)

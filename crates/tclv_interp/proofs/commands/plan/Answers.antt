@@ -7,16 +7,16 @@ use Rattle.tclv_interp.specs.Commands.{wanted}
 use Rattle.tclv_interp.proofs.CommandLemmas.{plan-some}
 use Rattle.tclv_interp.proofs.commands.plan.Goals as goal
 
-pub returns-in_err-builtin-clause-answer : goal.returns-in_err-builtin-clause-answer
-returns-in_err-builtin-clause-answer g c w told =
+pub returns-in_err-target-clause-answer : goal.returns-in_err-target-clause-answer
+returns-in_err-target-clause-answer g c w told =
     runs_as (plan-some c.args.n c.args.machine.now.values.store.stack (state_of c.args.machine.now w) c.requires.some c.requires.words)
-    (then_stop _ (search rules) (c.in_err-builtin.ensures.answer (outer (g.O.Outside.told c.args.out.now) (g.O.Outside.torn c.args.out.now)) w told))
+    (then_stop _ (search rules) (c.in_err-target.ensures.answer (outer (g.O.Outside.told c.args.out.now) (g.O.Outside.torn c.args.out.now)) w told))
 
 pub returns-clause-answer : goal.returns-clause-answer
 returns-clause-answer g c w told =
     runs_as (plan-some c.args.n c.args.machine.now.values.store.stack (state_of c.args.machine.now w) c.requires.some c.requires.words)
-    (bind_ok _ (c.in_ok-builtin.ensures.answer (outer (g.O.Outside.told c.args.out.now) (g.O.Outside.torn c.args.out.now)) w told)
+    (bind_ok _ (c.in_ok-target.ensures.answer (outer (g.O.Outside.told c.args.out.now) (g.O.Outside.torn c.args.out.now)) w told)
     (λ b v e shown. runs_as
-    (ap (λ s. wanted c.in_ok-builtin.builtin (top c.args.n s) (state_of c.resolve.new.machine v)) c.in_ok-builtin.ensures.stack
+    (ap (λ s. wanted c.in_ok-target.target (top c.args.n s) (state_of c.resolve.new.machine v)) c.in_ok-target.ensures.stack
     ∙ ap (λ x. wanted x (top c.args.n c.args.machine.now.values.store.stack) (state_of c.resolve.new.machine v)) shown)
-    (c.plan_builtin.ensures.answer v e)))
+    (c.plan_target.ensures.answer v e)))

@@ -4,7 +4,7 @@ use Rattle.tclv_engine.specs.State.{state_of}
 use Rattle.tclv_engine.specs.Answers.{outer}
 use Rattle.tclv_engine.proofs.Binds.{runs_as}
 use Rattle.tclv_interp.specs.Commands.{wanted}
-use Rattle.tclv_interp.proofs.commands.plan_builtin.Goals as goal
+use Rattle.tclv_interp.proofs.commands.plan_target.Goals as goal
 
 pub returns-in-Plain-clause-answer : goal.returns-in-Plain-clause-answer
 returns-in-Plain-clause-answer g c w told =

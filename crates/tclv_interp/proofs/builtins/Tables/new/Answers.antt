@@ -1,0 +1,13 @@
+use Rattle.std.proofs.Common.{ap, ◌∙◌}
+use Rattle.tclv_names.specs.Keyed.{Named}
+use Rattle.tclv_interp.specs.declared.builtins.CommandTarget.{CommandTarget}
+use Rattle.tclv_interp.specs.declared.builtins.Tables.{Tables}
+use Rattle.tclv_interp.proofs.BuiltinLemmas.{all_built_in}
+use Rattle.tclv_interp.proofs.builtins.Tables.new.Goals as goal
+
+tables-with : Named CommandTarget → Tables
+tables-with commands = record { commands = commands }
+
+pub returns : goal.returns
+unfolding tables-with
+returns c = ap tables-with (c.in_ok-fill.ensures ∙ all_built_in)
