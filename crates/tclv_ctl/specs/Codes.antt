@@ -48,11 +48,3 @@ or_says message word None = says message word []
 
 abbrev pub completion_code : Text → Answer Code
 completion_code word = or_says BadCompletionCode word (code_of word)
-
-abbrev pub number_of_code : Code → ℤ
-number_of_code code.Ok = pos 0
-number_of_code code.Error = pos 1
-number_of_code code.Return = pos 2
-number_of_code code.Break = pos 3
-number_of_code code.Continue = pos 4
-number_of_code (code.Other n) = n

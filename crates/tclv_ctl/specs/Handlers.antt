@@ -8,6 +8,7 @@ use Rattle.tclv_model.specs.declared.outcomes.Code.{Code}
 use Rattle.tclv_model.specs.declared.messages.MessageId.TheVariants.{LastHandlerWithoutBody}
 use Rattle.tclv_model.specs.declared.usages.Usage.TheVariants.{Try}
 use Rattle.tclv_model.specs.Usages.{usage_of}
+use Rattle.tclv_model.specs.Codes.{code_number}
 use Rattle.tclv_model.specs.Rows.{Answer, Gives, Refuses, and_then, says, wrong_count}
 use Rattle.tclv_model.specs.Values.{list_of}
 use Rattle.tclv_ctl.specs.declared.handlers.Handling.{Handling}
@@ -16,7 +17,7 @@ use Rattle.tclv_ctl.specs.declared.handlers.Condition.{Condition}
 use Rattle.tclv_ctl.specs.declared.handlers.Condition.TheVariants as place
 use Rattle.tclv_ctl.specs.declared.handlers.HandlerPlaces.{HandlerPlaces}
 use Rattle.tclv_ctl.specs.declared.handlers.TryPlan.{TryPlan}
-use Rattle.tclv_ctl.specs.Codes.{completion_code, number_of_code}
+use Rattle.tclv_ctl.specs.Codes.{completion_code}
 use Rattle.tclv_ctl.specs.Switching.{Text, is_dash, given_words}
 
 -- What an outcome has to be for a handler: one with this code, or an error whose code begins with the elements of this pattern.
@@ -129,8 +130,8 @@ is_front None front = false
 
 -- The outcome with this code, whose error code has these words, is what the handler is for.
 abbrev pub fits : Code → Option (List Text) → For → Bool
-fits code words (On c) = int_eq (number_of_code code) (number_of_code c)
-fits code words (Trap pattern) = int_eq (number_of_code code) (pos 1) && is_front words (listed (list_of pattern))
+fits code words (On c) = int_eq (code_number code) (code_number c)
+fits code words (Trap pattern) = int_eq (code_number code) (pos 1) && is_front words (listed (list_of pattern))
 
 -- the first handler that fits
 abbrev pub first_fitting : Code → Option (List Text) → List Handler → Option Handler

@@ -3,7 +3,7 @@ ghost use Rattle.std.specs.Prelude.{◌≡◌};
 ghost use Rattle.std.specs.Str.{chars};
 ghost use Rattle.tclv_text.specs.Texts.{IsText};
 ghost use Rattle.tclv_reply.specs.Replies.{Reads};
-ghost use Rattle.tclv_ctl.specs.Codes.{is_short, numbered, code_of, completion_code, number_of_code};
+ghost use Rattle.tclv_ctl.specs.Codes.{is_short, numbered, code_of, completion_code};
 
 use tclv_model::{CmdFault, Code, MessageId};
 use tclv_reply::refuse;
@@ -69,19 +69,5 @@ pub(crate) fn completion_code(store: &mut Store, word: &[u8]) -> Result<Code, Cm
     match code_of(word) {
         Some(code) => Ok(code),
         None => Err(refuse(store, MessageId::BadCompletionCode, word, "NONE")),
-    }
-}
-
-// The number of a code.
-pub(crate) fn number_of_code(code: Code) -> i32
-    ensures { result ≡ number_of_code code }
-{
-    match code {
-        Code::Ok => 0,
-        Code::Error => 1,
-        Code::Return => 2,
-        Code::Break => 3,
-        Code::Continue => 4,
-        Code::Other(n) => n,
     }
 }

@@ -13,7 +13,7 @@ ghost use Rattle.tclv_ctl.specs.Handlers.{beginning, wanted, handler, handlers, 
 
 use crate::codes::completion_code;
 use crate::switching::{body_at, is_dash};
-use tclv_model::{CmdFault, Code, MessageId, Usage, usage_text};
+use tclv_model::{CmdFault, Code, MessageId, Usage};
 use tclv_reply::{copy_of, list_len, refuse, refuse_count, settle_refusal, word_is};
 use tclv_text::{NoMemory, is_ascii_word};
 use tclv_value::{At, Store};
@@ -105,7 +105,7 @@ fn read_wanted(
             list_len(store, At::Stack(at))?;
             Ok(Condition::Trap(at))
         }
-        Handling::Unknown => Err(refuse_count(store, call, usage_text(Usage::Try))),
+        Handling::Unknown => Err(refuse_count(store, call, Usage::Try)),
     }
 }
 
@@ -184,12 +184,12 @@ fn read_ending(store: &mut Store, call: usize, from: usize) -> Result<Option<usi
         return Ok(None);
     }
     if left != 2 {
-        return Err(refuse_count(store, call, usage_text(Usage::Try)));
+        return Err(refuse_count(store, call, Usage::Try));
     }
     if word_is(store, height - 2, "finally")? {
         Ok(Some(height - 1))
     } else {
-        Err(refuse_count(store, call, usage_text(Usage::Try)))
+        Err(refuse_count(store, call, Usage::Try))
     }
 }
 
@@ -278,7 +278,7 @@ pub fn try_clauses(store: &mut Store, n: usize) -> Result<TryPlan, CmdFault>
 {
     let height = store.height();
     if n == 0 {
-        let kind = refuse_count(store, height - 1, usage_text(Usage::Try));
+        let kind = refuse_count(store, height - 1, Usage::Try);
         return Err(settle_refusal(store, n, height, kind));
     }
     match read_clauses(store, height - n - 1, height - n + 1) {

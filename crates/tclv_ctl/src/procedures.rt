@@ -12,7 +12,7 @@ ghost use Rattle.tclv_ctl.specs.Steps.{Finds, Understands};
 ghost use Rattle.tclv_ctl.specs.Parameters.{name_flaw, named, fields, parameter, parameters, ends_in_args, procedure, proc_of};
 
 use std::rc::Rc;
-use tclv_model::{CmdFault, MessageId, Usage, usage_text};
+use tclv_model::{CmdFault, MessageId, Usage};
 use tclv_reply::{
     copy_of, cut, elements_of, push_elements, refuse, refuse_count, refuse_on, settle_refusal,
 };
@@ -166,7 +166,7 @@ fn read_procedure(store: &mut Store, n: usize) -> Result<Rc<ProcDef>, CmdFault>
 {
     let height = store.height();
     if n != 3 {
-        return Err(refuse_count(store, height - n - 1, usage_text(Usage::Proc)));
+        return Err(refuse_count(store, height - n - 1, Usage::Proc));
     }
     let params = read_parameters(store, height - 2)?;
     let made = make_procedure(store, height - 1, params)?;

@@ -9,7 +9,7 @@ ghost use Rattle.tclv_ctl.specs.Steps.{Steps};
 ghost use Rattle.tclv_ctl.specs.Switching.{leading, options, plain, clause_words, is_dash, pairs, clauses, choice, row_switch, manner_of, held_clauses, pushed_for, IsAskedAt, IsFrom, AreClausesAt, ReadsClauses, IsPlanOf, Plans};
 
 use crate::words::is_word;
-use tclv_model::{CmdFault, MessageId, Usage, usage_text};
+use tclv_model::{CmdFault, MessageId, Usage};
 use tclv_reply::{
     Matching, make_word, push_elements, refuse_count, refuse_on, settle_refusal, word_at,
 };
@@ -266,7 +266,7 @@ pub fn switch_clauses(store: &mut Store, n: usize) -> Result<SwitchPlan, CmdFaul
 {
     let height = store.height();
     if n < 2 {
-        let kind = refuse_count(store, height - n - 1, usage_text(Usage::Switch));
+        let kind = refuse_count(store, height - n - 1, Usage::Switch);
         return Err(settle_refusal(store, n, height, kind));
     }
     match read_words(store, height - n) {

@@ -6,7 +6,6 @@ ghost use Rattle.tclv_model.specs.Values.{list_of};
 ghost use Rattle.tclv_value.specs.Changes.{KeepsTexts};
 ghost use Rattle.tclv_ctl.specs.Handlers.{listed, begins_with, is_front, fits, first_fitting, handler_for, wanted_in, handler_in, IsConditionInside, IsHandlerInside};
 
-use crate::codes::number_of_code;
 use crate::handlers::{Condition, HandlerPlaces, TryPlan};
 use tclv_model::{CmdFault, Code};
 use tclv_reply::{Elements, cut, elements_of, push_bytes};
@@ -81,10 +80,10 @@ fn fits(
     ensures kept { KeepsTexts store.old store.new }
 {
     match condition {
-        Condition::On(wanted) => Ok(number_of_code(code) == number_of_code(wanted)),
+        Condition::On(wanted) => Ok(code.number() == wanted.number()),
         Condition::Trap(pattern) => {
             let front = listed_at(store, pattern)?;
-            Ok(number_of_code(code) == 1 && is_front(words, &front))
+            Ok(code.number() == 1 && is_front(words, &front))
         }
     }
 }

@@ -1,9 +1,10 @@
 -- Laws of steps that change a variable.
 use Rattle.std.proofs.Common.{◌≡◌, ◌≢◌, ℕ, ◌+◌, ◌<◌, ◌≤◌, List, [], ◌∷◌, length, take, get_or, Result, Ok, Err, refl, sym, ap, ◌∙◌, subst, arith}
-use Rattle.std.specs.Prelude.{codes}
 use Rattle.tclv_model.specs.declared.data_commands.CmdFault.{CmdFault}
 use Rattle.tclv_model.specs.declared.data_commands.CmdFault.TheVariants as fault
 use Rattle.tclv_model.specs.declared.data_commands.VarState.{VarState}
+use Rattle.tclv_model.specs.declared.usages.Usage.TheVariants as command
+use Rattle.tclv_model.specs.Usages.{usage_of}
 use Rattle.tclv_model.specs.Rows.{RowAnswer, VarAnswer, Variable, and_then, wrong_count}
 use Rattle.tclv_value.specs.View.{View}
 use Rattle.tclv_reply.specs.Replies.{Grows, Refused, Settles, Answers, VarAnswers, cells_with, left_count}
@@ -53,7 +54,7 @@ var_count call usage variable n old new (Err fault.NoMemory) a = record { gives 
 var_count call usage variable n old new (Err fault.WrongArgs) a = record { gives = tt; refuses = record { message = a.refuses.message; code = a.refuses.code; refused = ap (λ (b : RowAnswer). and_then b both) a.refuses.refused; stack = a.refuses.stack }; kept = a.cells }
 var_count call usage variable n old new (Err fault.Message) a = record { gives = tt; refuses = record { message = a.refuses.message; code = a.refuses.code; refused = ap (λ (b : RowAnswer). and_then b both) a.refuses.refused; stack = a.refuses.stack }; kept = a.cells }
 
-pub lset_count : (call : List ℕ) (words : List (List ℕ)) (v : Variable) → length words < 2 → row_lset call words v ≡ wrong_count call (codes " varName ?index ...? newValue")
+pub lset_count : (call : List ℕ) (words : List (List ℕ)) (v : Variable) → length words < 2 → row_lset call words v ≡ wrong_count call (usage_of command.Lset)
 lset_count call [] v h = refl
 lset_count call (a ∷ []) v h = refl
 lset_count call (a ∷ b ∷ ws) v h = absurd (omega arith)
@@ -62,7 +63,7 @@ pub lset_words : (call name : List ℕ) (words : List (List ℕ)) (v : Variable)
 lset_words call name [] v n h = absurd (omega arith)
 lset_words call name (w ∷ ws) v n h = let e : length ws ≡ n = omega arith in ap (λ k. lset_of name (path_of (take k (w ∷ ws))) (get_or (w ∷ ws) k []) v) e
 
-pub lpop_count : (call : List ℕ) (words : List (List ℕ)) (v : Variable) → length words ≢ 1 → length words ≢ 2 → row_lpop call words v ≡ wrong_count call (codes " varName ?index?")
+pub lpop_count : (call : List ℕ) (words : List (List ℕ)) (v : Variable) → length words ≢ 1 → length words ≢ 2 → row_lpop call words v ≡ wrong_count call (usage_of command.Lpop)
 lpop_count call [] v h k = refl
 lpop_count call (a ∷ []) v h k = absurd (h refl)
 lpop_count call (a ∷ b ∷ []) v h k = absurd (k refl)

@@ -1,10 +1,12 @@
 -- Rows of the commands that give a changed list.
-use Rattle.std.specs.Prelude.{◌≡◌, ◌<◌, ◌≤◌, ℕ, ◌+◌, Bool, true, false, if◌then◌else◌, min, max, List, [], ◌∷◌, length, reverse, ℤ, pos, ◌+ℤ◌, codes, slice_index_or, slice_set}
+use Rattle.std.specs.Prelude.{◌≡◌, ◌<◌, ◌≤◌, ℕ, ◌+◌, Bool, true, false, if◌then◌else◌, min, max, List, [], ◌∷◌, length, reverse, ℤ, pos, ◌+ℤ◌, slice_index_or, slice_set}
 use Rattle.std.specs.List.{list_any}
 use Rattle.std.specs.Ordering.{int_eq}
 use Rattle.std.specs.Option.{option_map_or}
 use Rattle.tclv_text.specs.Quotes.{list_text}
 use Rattle.tclv_value.specs.Lists.{replaced}
+use Rattle.tclv_model.specs.declared.usages.Usage.TheVariants as command
+use Rattle.tclv_model.specs.Usages.{usage_of}
 use Rattle.tclv_model.specs.Rows.{Answer, RowAnswer, Gives, and_then, wrong_count}
 use Rattle.tclv_model.specs.Values.{list_of, place_of, raised}
 use Rattle.tclv_reply.specs.Places.{place_among}
@@ -15,7 +17,7 @@ reversed_of list = and_then (list_of list) (λ ts. Gives (list_text (reverse ts)
 
 abbrev pub row_lreverse : List ℕ → List (List ℕ) → RowAnswer
 row_lreverse call (list ∷ []) = reversed_of list
-row_lreverse call _ = wrong_count call (codes " list")
+row_lreverse call _ = wrong_count call (usage_of command.Lreverse)
 
 -- A list that gives way at a part: its elements, where that part begins, and where it ends.
 pub record Gap : Type 0 where
@@ -48,7 +50,7 @@ replaced_of list first last words = and_then (gap_between list first last) (λ g
 
 abbrev pub row_lreplace : List ℕ → List (List ℕ) → RowAnswer
 row_lreplace call (list ∷ first ∷ last ∷ words) = replaced_of list first last words
-row_lreplace call _ = wrong_count call (codes " list first last ?element ...?")
+row_lreplace call _ = wrong_count call (usage_of command.Lreplace)
 
 -- `linsert list index ?element ...?`: the list with the elements before the place
 abbrev pub inserted_of : List ℕ → List ℕ → List (List ℕ) → RowAnswer
@@ -56,7 +58,7 @@ inserted_of list place words = and_then (gap_before list place) (λ gap. Gives (
 
 abbrev pub row_linsert : List ℕ → List (List ℕ) → RowAnswer
 row_linsert call (list ∷ place ∷ words) = inserted_of list place words
-row_linsert call _ = wrong_count call (codes " list index ?element ...?")
+row_linsert call _ = wrong_count call (usage_of command.Linsert)
 
 -- the places that texts name, read from the left
 abbrev pub places_of : List (List ℕ) → ℕ → Answer (List ℤ)
@@ -85,7 +87,7 @@ removed_of list words =
 
 abbrev pub row_lremove : List ℕ → List (List ℕ) → RowAnswer
 row_lremove call (list ∷ words) = removed_of list words
-row_lremove call _ = wrong_count call (codes " list ?index ...?")
+row_lremove call _ = wrong_count call (usage_of command.Lremove)
 
 -- The ends are those of the part, within the list, which is that of a text.
 pub record IsGap (text : List ℕ) (gap : Gap) (from to : ℕ) : Type 0 where

@@ -3,6 +3,8 @@ use Rattle.std.specs.Prelude.{ℕ, ◌+◌, ◌-◌, Bool, true, false, ◌==◌
 use Rattle.std.specs.List.{list_any, prefix_len, suffix_len, slice_split}
 use Rattle.tclv_text.specs.Characters.{is_space}
 use Rattle.tclv_text.specs.Quotes.{list_text}
+use Rattle.tclv_model.specs.declared.usages.Usage.TheVariants as command
+use Rattle.tclv_model.specs.Usages.{usage_of}
 use Rattle.tclv_model.specs.Rows.{RowAnswer, Gives, and_then, wrong_count}
 use Rattle.tclv_model.specs.Values.{list_of}
 
@@ -23,7 +25,7 @@ joined_of list separator = and_then (list_of list) (λ ts. Gives (joined separat
 abbrev pub row_join : List ℕ → List (List ℕ) → RowAnswer
 row_join call (list ∷ []) = joined_of list (codes " ")
 row_join call (list ∷ separator ∷ []) = joined_of list separator
-row_join call _ = wrong_count call (codes " list ?joinString?")
+row_join call _ = wrong_count call (usage_of command.Join)
 
 -- a backslash comes last
 abbrev pub ends_in_backslash : List ℕ → Bool
@@ -68,4 +70,4 @@ split_parts (s ∷ separators) (c ∷ text) = slice_split (is_one_of (s ∷ sepa
 abbrev pub row_split : List ℕ → List (List ℕ) → RowAnswer
 row_split call (text ∷ []) = Gives (list_text (split_parts (32 ∷ 9 ∷ 10 ∷ 13 ∷ []) text))
 row_split call (text ∷ separators ∷ []) = Gives (list_text (split_parts separators text))
-row_split call _ = wrong_count call (codes " string ?splitChars?")
+row_split call _ = wrong_count call (usage_of command.Split)

@@ -1,7 +1,9 @@
 -- Rows of the commands that make lists of words.
-use Rattle.std.specs.Prelude.{ℕ, zero, suc, List, [], ◌∷◌, ◌++◌, ℤ, pos, negsuc, codes}
+use Rattle.std.specs.Prelude.{ℕ, zero, suc, List, [], ◌∷◌, ◌++◌, ℤ, pos, negsuc}
 use Rattle.tclv_text.specs.Quotes.{list_text}
 use Rattle.tclv_model.specs.declared.messages.MessageId.TheVariants.{BadCount}
+use Rattle.tclv_model.specs.declared.usages.Usage.TheVariants as command
+use Rattle.tclv_model.specs.Usages.{usage_of}
 use Rattle.tclv_model.specs.Rows.{Answer, RowAnswer, Gives, and_then, says, wrong_count}
 use Rattle.tclv_model.specs.Values.{whole_of}
 
@@ -28,4 +30,4 @@ repeated_of count words = and_then (count_of count) (λ n. Gives (list_text (tim
 -- `lrepeat count ?value ...?`: the values, as often as the count says
 abbrev pub row_lrepeat : List ℕ → List (List ℕ) → RowAnswer
 row_lrepeat call (count ∷ words) = repeated_of count words
-row_lrepeat call _ = wrong_count call (codes " count ?value ...?")
+row_lrepeat call _ = wrong_count call (usage_of command.Lrepeat)

@@ -5,6 +5,8 @@ use Rattle.std.specs.List.{enumerate_from}
 use Rattle.std.specs.Str.{bytes_eq}
 use Rattle.tclv_text.specs.Numbers.{whole_text}
 use Rattle.tclv_text.specs.Quotes.{list_text}
+use Rattle.tclv_model.specs.declared.usages.Usage.TheVariants as command
+use Rattle.tclv_model.specs.Usages.{usage_of}
 use Rattle.tclv_model.specs.Rows.{Answer, RowAnswer, Gives, and_then, wrong_count}
 use Rattle.tclv_model.specs.Values.{list_of, place_of, raised}
 use Rattle.tclv_reply.specs.declared.comparing.Matching.TheVariants.{Exact, Glob}
@@ -12,7 +14,7 @@ use Rattle.tclv_lists.specs.declared.searching.Search.{Search}
 use Rattle.tclv_lists.specs.declared.searching.SearchOption.{SearchOption}
 use Rattle.tclv_lists.specs.declared.searching.SearchOption.TheVariants as option
 use Rattle.tclv_reply.specs.Comparing.{fits_pattern}
-use Rattle.tclv_reply.specs.Options.{Options, known_or_bad, options_of}
+use Rattle.tclv_reply.specs.Options.{Options, known_or_bad, options_read}
 
 -- without options: by glob, in each case, the first place
 abbrev pub plain_search : Search
@@ -42,11 +44,11 @@ abbrev pub search_after : List ℕ → Search → Option Search
 search_after o s = option_map (with_search_option s) (search_option o)
 
 abbrev pub lsearch_count : {A : Type 0} → List ℕ → Answer A
-lsearch_count call = wrong_count call (codes " ?option ...? list pattern")
+lsearch_count call = wrong_count call (usage_of command.Lsearch)
 
 -- the options, of which `-start` has a value
 abbrev pub search_options : List ℕ → List (List ℕ) → Answer (Options Search)
-search_options call words = options_of (codes "-start") (λ o s. known_or_bad o (search_after o s)) (lsearch_count call) words (record { settings = plain_search; index = None })
+search_options call words = options_read (codes "-start") (λ o s. known_or_bad o (search_after o s)) (lsearch_count call) words (record { settings = plain_search; index = None })
 
 -- the element is one that is looked for
 abbrev pub is_wanted : Search → List ℕ → List ℕ → Bool

@@ -6,6 +6,8 @@ use Rattle.std.specs.Ordering.{int_eq}
 use Rattle.std.specs.Str.{bytes_eq, encode_utf8_all}
 use Rattle.tclv_text.specs.Quotes.{list_text}
 use Rattle.tclv_model.specs.declared.messages.MessageId.TheVariants.{ListTooLong}
+use Rattle.tclv_model.specs.declared.usages.Usage.TheVariants as command
+use Rattle.tclv_model.specs.Usages.{usage_of}
 use Rattle.tclv_model.specs.Rows.{Answer, RowAnswer, Gives, and_then, says, wrong_count}
 use Rattle.tclv_model.specs.Values.{whole_of, too_large, raised}
 use Rattle.tclv_value.specs.Sequences.{number_at, sequence}
@@ -55,8 +57,8 @@ abbrev pub stepping : ℤ → ℤ → Option (List ℕ) → RowAnswer
 stepping start end s = and_then (whole_or (step_towards start end) s) (λ step. up_to start end step)
 
 -- `a b s`: the numbers from a start up to an end, at a step
-abbrev pub between : List ℕ → List ℕ → Option (List ℕ) → RowAnswer
-between a b s = and_then (whole_of a) (λ start. and_then (whole_of b) (λ end. stepping start end s))
+abbrev pub from_to : List ℕ → List ℕ → Option (List ℕ) → RowAnswer
+from_to a b s = and_then (whole_of a) (λ start. and_then (whole_of b) (λ end. stepping start end s))
 
 -- `a count n by s`: so many numbers from a start on, at a step
 abbrev pub counting : Option (List ℕ) → List ℕ → Option (List ℕ) → RowAnswer
@@ -76,7 +78,7 @@ link_of word =
 
 -- the list of numbers that `a op b` describes, with a step if one is given; otherwise another answer
 abbrev pub linked : Link → List ℕ → List ℕ → Option (List ℕ) → RowAnswer → RowAnswer
-linked To a b s other = between a b s
+linked To a b s other = from_to a b s
 linked Count a b s other = counting (Some a) b s
 linked By a b s other = other
 linked Other a b s other = other
@@ -87,15 +89,15 @@ behind_by By answer other = answer
 behind_by _ answer other = other
 
 abbrev pub lseq_count : List ℕ → RowAnswer
-lseq_count call = wrong_count call (codes " n ??op? n ??by? n??")
+lseq_count call = wrong_count call (usage_of command.Lseq)
 
 -- `n by s`, `a op b` or `a b s`
 abbrev pub three_words : List ℕ → List ℕ → List ℕ → RowAnswer
-three_words a op b = behind_by (link_of op) (counting None a (Some b)) (linked (link_of op) a b None (between a op (Some b)))
+three_words a op b = behind_by (link_of op) (counting None a (Some b)) (linked (link_of op) a b None (from_to a op (Some b)))
 
 -- `a op b s` or `a b by s`
 abbrev pub four_words : List ℕ → List ℕ → List ℕ → List ℕ → List ℕ → RowAnswer
-four_words call a op b s = linked (link_of op) a b (Some s) (behind_by (link_of b) (between a op (Some s)) (lseq_count call))
+four_words call a op b s = linked (link_of op) a b (Some s) (behind_by (link_of b) (from_to a op (Some s)) (lseq_count call))
 
 -- `a op b by s`
 abbrev pub five_words : List ℕ → List ℕ → List ℕ → List ℕ → List ℕ → List ℕ → RowAnswer
@@ -105,7 +107,7 @@ five_words call a op b by s = behind_by (link_of by) (linked (link_of op) a b (S
 -- end, and with `count` a start and a count. A step stands behind, with `by` before it or without.
 abbrev pub row_lseq : List ℕ → List (List ℕ) → RowAnswer
 row_lseq call (n ∷ []) = counting None n None
-row_lseq call (a ∷ b ∷ []) = between a b None
+row_lseq call (a ∷ b ∷ []) = from_to a b None
 row_lseq call (a ∷ op ∷ b ∷ []) = three_words a op b
 row_lseq call (a ∷ op ∷ b ∷ s ∷ []) = four_words call a op b s
 row_lseq call (a ∷ op ∷ b ∷ by ∷ s ∷ []) = five_words call a op b by s

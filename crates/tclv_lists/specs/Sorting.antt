@@ -10,6 +10,8 @@ use Rattle.std.specs.Str.{bytes_eq}
 use Rattle.tclv_text.specs.Globs.{folded}
 use Rattle.tclv_text.specs.Quotes.{list_text}
 use Rattle.tclv_model.specs.declared.messages.MessageId.TheVariants.{MissingSublistElement}
+use Rattle.tclv_model.specs.declared.usages.Usage.TheVariants as command
+use Rattle.tclv_model.specs.Usages.{usage_of}
 use Rattle.tclv_model.specs.Rows.{Answer, RowAnswer, Gives, and_then, says, wrong_count}
 use Rattle.tclv_model.specs.Values.{list_of, place_of, whole_of}
 use Rattle.tclv_lists.specs.declared.sorting.Comparison.{Comparison}
@@ -22,7 +24,7 @@ use Rattle.tclv_lists.specs.declared.sorting.Key.TheVariants.{Number, Word}
 use Rattle.tclv_lists.specs.declared.sorting.Entry.{Entry}
 use Rattle.tclv_lists.specs.declared.sorting.OrderOption.{OrderOption}
 use Rattle.tclv_lists.specs.declared.sorting.OrderOption.TheVariants as option
-use Rattle.tclv_reply.specs.Options.{Options, known_or_bad, options_of}
+use Rattle.tclv_reply.specs.Options.{Options, known_or_bad, options_read}
 use Rattle.tclv_lists.specs.Paths.{element}
 
 -- without options: the elements themselves, as texts, in increasing order
@@ -53,10 +55,10 @@ abbrev pub order_after : List ℕ → Order → Option Order
 order_after o s = option_map (with_order_option s) (order_option o)
 
 abbrev pub lsort_count : {A : Type 0} → List ℕ → Answer A
-lsort_count call = wrong_count call (codes " ?option ...? list")
+lsort_count call = wrong_count call (usage_of command.Lsort)
 
 abbrev pub order_options : List ℕ → List (List ℕ) → Answer (Options Order)
-order_options call words = options_of (codes "-index") (λ o s. known_or_bad o (order_after o s)) (lsort_count call) words (record { settings = plain_order; index = None })
+order_options call words = options_read (codes "-index") (λ o s. known_or_bad o (order_after o s)) (lsort_count call) words (record { settings = plain_order; index = None })
 
 -- the text of an element that is compared
 abbrev pub key_text : Option (List ℕ) → List ℕ → RowAnswer

@@ -7,6 +7,8 @@ use Rattle.tclv_text.specs.Quotes.{list_text}
 use Rattle.tclv_model.specs.declared.data_commands.CmdFault.{CmdFault}
 use Rattle.tclv_model.specs.declared.data_commands.VarState.{VarState}
 use Rattle.tclv_model.specs.declared.data_commands.VarState.TheVariants as var
+use Rattle.tclv_model.specs.declared.usages.Usage.TheVariants as command
+use Rattle.tclv_model.specs.Usages.{usage_of}
 use Rattle.tclv_model.specs.Rows.{Answer, VarAnswer, Gives, Variable, and_then, wrong_count}
 use Rattle.tclv_model.specs.Values.{list_of, place_of}
 use Rattle.tclv_value.specs.Lists.{replaced}
@@ -33,7 +35,7 @@ appended t (value ∷ values) ts = list_text (ts ++ value ∷ values)
 
 -- `lappend varName ?value ...?`: an unset variable counts as empty
 abbrev pub row_lappend : List ℕ → List (List ℕ) → Variable → VarAnswer
-row_lappend call [] v = wrong_count call (codes " varName ?value ...?")
+row_lappend call [] v = wrong_count call (usage_of command.Lappend)
 row_lappend call (name ∷ values) v =
     and_then (value_of name v) (λ old. let t = unwrap_or old [] in and_then (list_of t) (λ ts. both (appended t values ts)))
 
@@ -48,7 +50,7 @@ lset_of name path value v = checked path (and_then (text_of_set name v) (λ t. a
 
 abbrev pub row_lset : List ℕ → List (List ℕ) → Variable → VarAnswer
 row_lset call (name ∷ w ∷ ws) v = let n = length ws in lset_of name (path_of (take n (w ∷ ws))) (slice_index_or (w ∷ ws) n []) v
-row_lset call _ v = wrong_count call (codes " varName ?index ...? newValue")
+row_lset call _ v = wrong_count call (usage_of command.Lset)
 
 -- A list in a variable and the place of one of its elements, which an index names. The form of the index is checked before the variable.
 abbrev pub place_in : List ℕ → List ℕ → Variable → Answer (List (List ℕ) × ℕ)
@@ -69,7 +71,7 @@ lpop_of name i v = and_then (place_in name i v) (λ p. taken p.0 p.1)
 abbrev pub row_lpop : List ℕ → List (List ℕ) → Variable → VarAnswer
 row_lpop call (name ∷ []) v = lpop_of name (codes "end") v
 row_lpop call (name ∷ i ∷ []) v = lpop_of name i v
-row_lpop call _ v = wrong_count call (codes " varName ?index?")
+row_lpop call _ v = wrong_count call (usage_of command.Lpop)
 
 -- The answer's result is on top, and the variable has the answer's text.
 pub record IsStored (answer : VarAnswer) (variable : VarState) (old new : View) : Type 0 where

@@ -16,7 +16,7 @@ ghost use Rattle.tclv_lists.specs.Changing.{reversed_of, row_lreverse, IsGap, ga
 
 use crate::joining::{add_element, copy_word};
 use std::alloc::Global;
-use tclv_model::CmdFault;
+use tclv_model::{CmdFault, Usage};
 use tclv_reply::{
     clipped_behind, clipped_place, list_len, place_among, push_bytes, refuse_list, refuse_words,
     settle,
@@ -43,7 +43,7 @@ pub fn cmd_lreverse(store: &mut Store, n: usize) -> Result<(), CmdFault>
         store.old store.new result }
 {
     if n != 1 {
-        return refuse_words(store, n, " list");
+        return refuse_words(store, n, Usage::Lreverse);
     }
     let height = store.height();
     let done = push_reversed(store, height - 1);
@@ -117,7 +117,7 @@ pub fn cmd_lreplace(store: &mut Store, n: usize) -> Result<(), CmdFault>
         store.old store.new result }
 {
     if n < 3 {
-        return refuse_words(store, n, " list first last ?element ...?");
+        return refuse_words(store, n, Usage::Lreplace);
     }
     let height = store.height();
     match gap_between(store, height - n, height - n + 1, height - n + 2) {
@@ -134,7 +134,7 @@ pub fn cmd_linsert(store: &mut Store, n: usize) -> Result<(), CmdFault>
         store.old store.new result }
 {
     if n < 2 {
-        return refuse_words(store, n, " list index ?element ...?");
+        return refuse_words(store, n, Usage::Linsert);
     }
     let height = store.height();
     match gap_before(store, height - n, height - n + 1) {
@@ -250,7 +250,7 @@ pub fn cmd_lremove(store: &mut Store, n: usize) -> Result<(), CmdFault>
         store.old store.new result }
 {
     if n == 0 {
-        return refuse_words(store, n, " list ?index ...?");
+        return refuse_words(store, n, Usage::Lremove);
     }
     let height = store.height();
     let done = push_removed(store, n);

@@ -17,7 +17,7 @@ ghost use Rattle.tclv_reply.specs.Replies.{call_word, Answers, Grows, Leaves};
 ghost use Rattle.tclv_lists.specs.Joining.{joined, joined_of, row_join, spaced, concatenated, trimmed, ends_in_backslash, row_concat, single, is_one_of, split_parts, row_split};
 
 use std::alloc::Global;
-use tclv_model::CmdFault;
+use tclv_model::{CmdFault, Usage};
 use tclv_reply::{list_len, make_word, push_ascii, push_bytes, refuse_words, settle};
 use tclv_text::{ListFault, NoMemory, Span, Text, as_str, split_list, unescape};
 use tclv_value::{At, Store};
@@ -277,7 +277,7 @@ pub fn cmd_join(store: &mut Store, n: usize) -> Result<(), CmdFault>
             let done = push_joined(store, height - 2, height - 1);
             settle(store, n, height, done)
         }
-        _ => refuse_words(store, n, " list ?joinString?"),
+        _ => refuse_words(store, n, Usage::Join),
     }
 }
 
@@ -447,6 +447,6 @@ pub fn cmd_split(store: &mut Store, n: usize) -> Result<(), CmdFault>
             let done = push_parts_of(store, height - 2, height - 1);
             settle(store, n, height, done)
         }
-        _ => refuse_words(store, n, " string ?splitChars?"),
+        _ => refuse_words(store, n, Usage::Split),
     }
 }

@@ -4,7 +4,7 @@ ghost use Rattle.tclv_value.specs.Stacks.{top};
 ghost use Rattle.tclv_reply.specs.Replies.{call_word, Answers, Grows, Reads, Leaves};
 ghost use Rattle.tclv_lists.specs.Making.{row_list, times, count_of, repeated_of, row_lrepeat};
 
-use tclv_model::{CmdFault, MessageId};
+use tclv_model::{CmdFault, MessageId, Usage};
 use tclv_reply::{push_words, refuse_on, refuse_words, settle, whole_of};
 use tclv_text::NoMemory;
 use tclv_value::Store;
@@ -71,7 +71,7 @@ pub fn cmd_lrepeat(store: &mut Store, n: usize) -> Result<(), CmdFault>
         store.old store.new result }
 {
     if n == 0 {
-        return refuse_words(store, n, " count ?value ...?");
+        return refuse_words(store, n, Usage::Lrepeat);
     }
     let height = store.height();
     let done = push_repeated(store, n);

@@ -10,7 +10,7 @@ ghost use Rattle.tclv_reply.specs.Replies.{call_word, Answers, Leaves};
 ghost use Rattle.tclv_lists.specs.Reading.{length_of, row_llength, range_of, row_lrange, row_lindex};
 
 use crate::paths::push_named;
-use tclv_model::CmdFault;
+use tclv_model::{CmdFault, Usage};
 use tclv_reply::{
     clipped_behind, clipped_place, list_len, push_count, refuse_list, refuse_words, settle,
 };
@@ -33,7 +33,7 @@ pub fn cmd_llength(store: &mut Store, n: usize) -> Result<(), CmdFault>
         store.old store.new result }
 {
     if n != 1 {
-        return refuse_words(store, n, " list");
+        return refuse_words(store, n, Usage::Llength);
     }
     let height = store.height();
     let done = push_length(store, height - 1);
@@ -78,7 +78,7 @@ pub fn cmd_lrange(store: &mut Store, n: usize) -> Result<(), CmdFault>
         store.old store.new result }
 {
     if n != 3 {
-        return refuse_words(store, n, " list first last");
+        return refuse_words(store, n, Usage::Lrange);
     }
     let height = store.height();
     let done = push_part(store, height - 3, height - 2, height - 1);
@@ -95,7 +95,7 @@ pub fn cmd_lindex(store: &mut Store, n: usize) -> Result<(), CmdFault>
         store.old store.new result }
 {
     if n == 0 {
-        return refuse_words(store, n, " list ?index ...?");
+        return refuse_words(store, n, Usage::Lindex);
     }
     let height = store.height();
     let done = push_named(store, height - n, height - n + 1, height);

@@ -10,15 +10,13 @@ ghost use Rattle.tclv_reply.specs.Replies.{call_word, Answers, Grows, Reads, Lea
 ghost use Rattle.tclv_reply.specs.Options.{AreOptions};
 ghost use Rattle.tclv_lists.specs.Searching as spec;
 
-use tclv_model::CmdFault;
+use tclv_model::{CmdFault, Usage};
 use tclv_reply::{
     Matching, OptionWords, Settings, clipped_place, copy_of, elements_of, fits_pattern, push_bytes,
     push_count, push_number, read_options, refuse_words, settle,
 };
 use tclv_text::{NoMemory, Text, as_str};
 use tclv_value::Store;
-
-const USAGE: &str = " ?option ...? list pattern";
 
 /// What the options of `lsearch` say that have no value.
 #[derive(Clone, Copy, Debug, PartialEq, Eq)]
@@ -134,7 +132,7 @@ fn search_options(
         store.old store.new result }
 {
     let words = OptionWords { call, from, to };
-    read_options(store, words, Search::plain(), "-start", USAGE)
+    read_options(store, words, Search::plain(), "-start", Usage::Lsearch)
 }
 
 // Whether an element is one that is looked for.
@@ -298,7 +296,7 @@ pub fn cmd_lsearch(store: &mut Store, n: usize) -> Result<(), CmdFault>
         store.old store.new result }
 {
     if n < 2 {
-        return refuse_words(store, n, USAGE);
+        return refuse_words(store, n, Usage::Lsearch);
     }
     let height = store.height();
     let done = push_search(store, height - n - 1, height - n, height);

@@ -8,9 +8,9 @@ ghost use Rattle.tclv_value.specs.Changes.{KeepsTexts};
 ghost use Rattle.tclv_value.specs.View.{IsMade};
 ghost use Rattle.tclv_value.specs.declared.places.At.TheVariants.{Stack};
 ghost use Rattle.tclv_reply.specs.Replies.{call_word, Answers, Grows, Refused, Leaves, Reads};
-ghost use Rattle.tclv_lists.specs.Sequences.{sequence_of, count_within, count_to, up_to, step_towards, whole_or, stepping, between, counting, is_literal, link_of, linked, behind_by, lseq_count, three_words, four_words, five_words, row_lseq, word_at};
+ghost use Rattle.tclv_lists.specs.Sequences.{sequence_of, count_within, count_to, up_to, step_towards, whole_or, stepping, from_to, counting, is_literal, link_of, linked, behind_by, lseq_count, three_words, four_words, five_words, row_lseq, word_at};
 
-use tclv_model::{CmdFault, MessageId};
+use tclv_model::{CmdFault, MessageId, Usage};
 use tclv_reply::{make_word, refuse, refuse_count, settle, whole_of};
 use tclv_value::{At, Store, ValueFault};
 
@@ -139,7 +139,7 @@ fn push_between(
     requires start { start < length store.old.stack }
     requires end { end < length store.old.stack }
     requires step { IfSome step (λ k. k < length store.old.stack) }
-    ensures { Leaves (between (slice_index_or store.old.stack start []) (slice_index_or store.old.stack end [])
+    ensures { Leaves (from_to (slice_index_or store.old.stack start []) (slice_index_or store.old.stack end [])
         (word_at store.old.stack step)) store.old store.new result }
 {
     let start = whole_of(store, start)?;
@@ -211,7 +211,7 @@ fn refuse_form(store: &mut Store, call: usize) -> Result<(), CmdFault>
     requires { call < length store.old.stack }
     ensures { Leaves (lseq_count (slice_index_or store.old.stack call [])) store.old store.new result }
 {
-    Err(refuse_count(store, call, " n ??op? n ??by? n??"))
+    Err(refuse_count(store, call, Usage::Lseq))
 }
 
 // Pushes the list that three words describe, which are the last ones below a height.
@@ -234,7 +234,7 @@ fn push_by(store: &mut Store, height: usize) -> Result<(), CmdFault>
     requires words { 5 ≤ height }
     requires height { height ≤ length store.old.stack }
     ensures { Leaves (behind_by (link_of (slice_index_or store.old.stack (height - 2) []))
-        (between (slice_index_or store.old.stack (height - 4) []) (slice_index_or store.old.stack (height - 3) [])
+        (from_to (slice_index_or store.old.stack (height - 4) []) (slice_index_or store.old.stack (height - 3) [])
         (Some (slice_index_or store.old.stack (height - 1) [])))
         (lseq_count (slice_index_or store.old.stack (height - 5) []))) store.old store.new result }
 {

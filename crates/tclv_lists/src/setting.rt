@@ -15,7 +15,7 @@ ghost use Rattle.tclv_reply.specs.Variables.{both};
 ghost use Rattle.tclv_lists.specs.Variables.{taken, place_in, IsPlaceIn, IsStored, Stores, lset_of, row_lset, lpop_of, row_lpop};
 
 use crate::paths::read_path;
-use tclv_model::{CmdFault, VarState};
+use tclv_model::{CmdFault, Usage, VarState};
 use tclv_reply::{
     check_index, give_text, list_len, place_inside, place_within, push_ascii, push_bytes,
     push_word, push_words, refuse_list, refuse_words, set_cell, settle,
@@ -223,7 +223,7 @@ pub fn cmd_lset(store: &mut Store, variable: VarState, n: usize) -> Result<(), C
         (variable_of variable store.old)) variable n store.old store.new result }
 {
     if n < 2 {
-        return refuse_words(store, n, " varName ?index ...? newValue");
+        return refuse_words(store, n, Usage::Lset);
     }
     let height = store.height();
     let done = set_value(
@@ -326,5 +326,5 @@ pub fn cmd_lpop(store: &mut Store, variable: VarState, n: usize) -> Result<(), C
         let done = pop_at(store, variable, height - 2, height - 1);
         return settle(store, n, height, done);
     }
-    refuse_words(store, n, " varName ?index?")
+    refuse_words(store, n, Usage::Lpop)
 }

@@ -20,15 +20,13 @@ ghost use Rattle.tclv_lists.specs.Sorting.{AreEntries};
 use crate::points::{Points, points_of};
 use std::alloc::Global;
 use std::cmp::Ordering;
-use tclv_model::{CmdFault, MessageId};
+use tclv_model::{CmdFault, MessageId, Usage};
 use tclv_reply::{
     OptionWords, Settings, copy_of, elements_of, place_among, push_all, push_ascii, push_message,
     push_word, read_options, refuse, refuse_words, settle,
 };
 use tclv_text::{NoMemory, Text, WholeFault, as_str, whole};
 use tclv_value::Store;
-
-const USAGE: &str = " ?option ...? list";
 
 /// As what keys are compared.
 #[derive(Clone, Copy, Debug, PartialEq, Eq)]
@@ -206,7 +204,7 @@ fn order_options(
         store.old store.new result }
 {
     let words = OptionWords { call, from, to };
-    read_options(store, words, Order::plain(), "-index", USAGE)
+    read_options(store, words, Order::plain(), "-index", Usage::Lsort)
 }
 
 // Pushes the message that an element has no element at an index, and the code NONE.
@@ -463,7 +461,7 @@ pub fn cmd_lsort(store: &mut Store, n: usize) -> Result<(), CmdFault>
         store.old store.new result }
 {
     if n < 1 {
-        return refuse_words(store, n, USAGE);
+        return refuse_words(store, n, Usage::Lsort);
     }
     let height = store.height();
     let done = push_sort(store, height - n - 1, height - n, height);

@@ -13,7 +13,7 @@ ghost use Rattle.tclv_reply.specs.Variables.{both};
 ghost use Rattle.tclv_lists.specs.Variables.{appended, Appends, row_lappend};
 ghost use Rattle.tclv_value.specs.ListObjects.{AppendsTop};
 
-use tclv_model::{CmdFault, VarState};
+use tclv_model::{CmdFault, Usage, VarState};
 use tclv_reply::{
     cut, give_text, list_len, push_words, read_variable, refuse_list, refuse_words, settle,
 };
@@ -155,7 +155,7 @@ pub fn cmd_lappend(store: &mut Store, variable: VarState, n: usize) -> Result<()
     ensures object { OnOk result (n ≡ 2 → Appends variable store.old store.new) }
 {
     if n == 0 {
-        return refuse_words(store, n, " varName ?value ...?");
+        return refuse_words(store, n, Usage::Lappend);
     }
     let height = store.height();
     match read_variable(store, variable, height - n) {

@@ -1,5 +1,6 @@
 // How a command ends: a code, and options in order.
 ghost use Rattle.std.specs.Prelude.{◌≡◌, [], ◌∷◌, ◌++◌, OnOk, OnErr};
+ghost use Rattle.tclv_model.specs.Codes.{code_number};
 
 use std::alloc::Global;
 use std::marker::Model;
@@ -21,6 +22,22 @@ pub enum Code {
     Continue,
     /// A code of the script's own.
     Other(i32),
+}
+
+impl Code {
+    /// The number of the code.
+    pub fn number(self) -> i32
+        ensures { result ≡ code_number self }
+    {
+        match self {
+            Code::Ok => 0,
+            Code::Error => 1,
+            Code::Return => 2,
+            Code::Break => 3,
+            Code::Continue => 4,
+            Code::Other(n) => n,
+        }
+    }
 }
 
 /// An option: its name, such as `-code`, and its value.

@@ -8,7 +8,7 @@ use lib.Utf8.{encodes}
 use Rattle.tclv_text.specs.Texts.{IsText}
 use Rattle.tclv_model.specs.Rows.{Answer, Gives, Refuses, and_then}
 use Rattle.tclv_model.specs.Values.{place_of}
-use Rattle.tclv_reply.specs.Options.{Options, options_of}
+use Rattle.tclv_reply.specs.Options.{Options, options_read}
 
 -- a text is a word of ASCII exactly where its bytes are
 pub same_key : (r k : List ℕ) → IsText r → IsAscii k → bytes_eq r k ≡ bytes_eq (chars r) k
@@ -24,19 +24,19 @@ and_then_twice (Refuses kind message code) f g = refl
 module _ {S : Type 0} (name : List ℕ) (set : List ℕ → S → Answer S) (missing : Answer (Options S)) where
   -- at the option that has a value
   pub value_first : (o v : List ℕ) (os : List (List ℕ)) (x : Options S) → bytes_eq o name ≡ true →
-      options_of name set missing (o ∷ v ∷ os) x ≡ and_then (place_of v 0) (λ _. options_of name set missing os (record { settings = x.settings; index = Some v }))
+      options_read name set missing (o ∷ v ∷ os) x ≡ and_then (place_of v 0) (λ _. options_read name set missing os (record { settings = x.settings; index = Some v }))
   value_first o v os x e =
-      ap (λ b. cond b (and_then (place_of v 0) (λ _. options_of name set missing os (record { settings = x.settings; index = Some v })))
-      (and_then (and_then (set o x.settings) (λ s. Gives (record { settings = s; index = x.index }))) (λ y. options_of name set missing (v ∷ os) y))) e
+      ap (λ b. cond b (and_then (place_of v 0) (λ _. options_read name set missing os (record { settings = x.settings; index = Some v })))
+      (and_then (and_then (set o x.settings) (λ s. Gives (record { settings = s; index = x.index }))) (λ y. options_read name set missing (v ∷ os) y))) e
 
-  pub value_missing : (o : List ℕ) (x : Options S) → bytes_eq o name ≡ true → options_of name set missing (o ∷ []) x ≡ missing
+  pub value_missing : (o : List ℕ) (x : Options S) → bytes_eq o name ≡ true → options_read name set missing (o ∷ []) x ≡ missing
   value_missing o x e = ap (λ b. cond b missing (and_then (set o x.settings) (λ s. Gives (record { settings = s; index = x.index })))) e
 
   -- at another one
   pub word_first : (o : List ℕ) (os : List (List ℕ)) (x : Options S) → bytes_eq o name ≡ false →
-      options_of name set missing (o ∷ os) x ≡ and_then (set o x.settings) (λ s. options_of name set missing os (record { settings = s; index = x.index }))
+      options_read name set missing (o ∷ os) x ≡ and_then (set o x.settings) (λ s. options_read name set missing os (record { settings = s; index = x.index }))
   word_first o [] x e = ap (λ b. cond b missing (and_then (set o x.settings) (λ s. Gives (record { settings = s; index = x.index })))) e
   word_first o (v ∷ os) x e =
-      ap (λ b. cond b (and_then (place_of v 0) (λ _. options_of name set missing os (record { settings = x.settings; index = Some v })))
-      (and_then (and_then (set o x.settings) (λ s. Gives (record { settings = s; index = x.index }))) (λ y. options_of name set missing (v ∷ os) y))) e
-      ∙ and_then_twice (set o x.settings) (λ s. record { settings = s; index = x.index }) (λ y. options_of name set missing (v ∷ os) y)
+      ap (λ b. cond b (and_then (place_of v 0) (λ _. options_read name set missing os (record { settings = x.settings; index = Some v })))
+      (and_then (and_then (set o x.settings) (λ s. Gives (record { settings = s; index = x.index }))) (λ y. options_read name set missing (v ∷ os) y))) e
+      ∙ and_then_twice (set o x.settings) (λ s. record { settings = s; index = x.index }) (λ y. options_read name set missing (v ∷ os) y)

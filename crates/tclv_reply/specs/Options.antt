@@ -20,13 +20,13 @@ abbrev pub with_settings : {S : Type 0} → Options S → Answer S → Answer (O
 with_settings x new = and_then new (λ s. Gives (record { settings = s; index = x.index }))
 
 -- The options from the left. The one of this name has a value, which must have the form of an index; missing is the answer where the value isn't there.
-abbrev pub options_of : {S : Type 0} → List ℕ → (List ℕ → S → Answer S) → Answer (Options S) → List (List ℕ) → Options S → Answer (Options S)
-options_of name set missing [] x = Gives x
-options_of name set missing (o ∷ []) x = if bytes_eq o name then missing else with_settings x (set o x.settings)
-options_of name set missing (o ∷ v ∷ os) x =
+abbrev pub options_read : {S : Type 0} → List ℕ → (List ℕ → S → Answer S) → Answer (Options S) → List (List ℕ) → Options S → Answer (Options S)
+options_read name set missing [] x = Gives x
+options_read name set missing (o ∷ []) x = if bytes_eq o name then missing else with_settings x (set o x.settings)
+options_read name set missing (o ∷ v ∷ os) x =
     if bytes_eq o name
-    then and_then (place_of v 0) (λ _. options_of name set missing os (record { settings = x.settings; index = Some v }))
-    else and_then (with_settings x (set o x.settings)) (λ y. options_of name set missing (v ∷ os) y)
+    then and_then (place_of v 0) (λ _. options_read name set missing os (record { settings = x.settings; index = Some v }))
+    else and_then (with_settings x (set o x.settings)) (λ y. options_read name set missing (v ∷ os) y)
 
 -- The settings, and where the value stands in a stack, if there is one.
 pub record AreOptions {S : Type 0} (stack : List (List ℕ)) (options : Options S) (x : S × Option ℕ) : Type 0 where

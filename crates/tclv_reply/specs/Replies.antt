@@ -159,12 +159,12 @@ abbrev pub gathered : ℕ → ℕ → List (List ℕ) → List (List ℕ)
 gathered base count stack = take base stack ++ top count stack
 
 -- what is left of a stack, of which so much was there before the steps, when what they left stands in place of the n words
-abbrev pub settled : ℕ → ℕ → Result (Unit {0}) CmdFault → List (List ℕ) → List (List ℕ)
-settled n height (Err fault.NoMemory) stack = take height stack
-settled n height (Ok _) stack = gathered (height - n) 1 stack
-settled n height (Err _) stack = gathered (height - n) 2 stack
+abbrev pub settled_stack : ℕ → ℕ → Result (Unit {0}) CmdFault → List (List ℕ) → List (List ℕ)
+settled_stack n height (Err fault.NoMemory) stack = take height stack
+settled_stack n height (Ok _) stack = gathered (height - n) 1 stack
+settled_stack n height (Err _) stack = gathered (height - n) 2 stack
 
 pub record Settles (n height : ℕ) (done : Result (Unit {0}) CmdFault) (old new : View) : Type 0 where
-  pub stack : new.stack ≡ settled n height done old.stack
+  pub stack : new.stack ≡ settled_stack n height done old.stack
   pub cells : new.cells ≡ old.cells
   pub stays : done ≡ Err fault.NoMemory → KeepsMade old new

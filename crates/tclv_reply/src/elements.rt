@@ -109,7 +109,7 @@ fn read_elements(store: &mut Store, list: At) -> Result<Vec<Text>, ValueFault>
 ///
 /// `Message` comes exactly where the text is no list: the message on its first fault and the error
 /// code are pushed, and nothing else. After `NoMemory` every place has the text that it had.
-pub fn list_elements(store: &mut Store, list: At) -> Result<Elements, CmdFault>
+pub(crate) fn list_elements(store: &mut Store, list: At) -> Result<Elements, CmdFault>
     requires { HasPlace store.old list }
     ensures reads { Reads (list_of (text_at store.old list)) (λ ts x. x ≡ ts) store.old store.new result }
     ensures refuses { IfErr result (λ kind.

@@ -25,7 +25,7 @@ mod variables;
 mod words;
 
 pub use comparing::{Matching, fits_pattern};
-pub use elements::{Elements, elements_of, list_elements, push_elements};
+pub use elements::{Elements, elements_of, push_elements};
 pub use numbers::{
     check_index, clipped_behind, clipped_place, is_index, place_among, place_inside, place_of,
     place_within, whole_of,

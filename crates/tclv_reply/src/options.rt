@@ -5,15 +5,16 @@ ghost use Rattle.std.specs.Char.{is_ascii};
 ghost use Rattle.std.specs.Str.{chars};
 ghost use Rattle.tclv_text.specs.Texts.{IsText};
 ghost use Rattle.tclv_model.specs.Rows.{wrong_count};
+ghost use Rattle.tclv_model.specs.Usages.{usage_of};
 ghost use Rattle.tclv_value.specs.View.{IsMade};
 ghost use Rattle.tclv_value.specs.declared.places.At.TheVariants.{Stack};
 ghost use Rattle.tclv_reply.specs.Replies.{Reads};
-ghost use Rattle.tclv_reply.specs.Options.{known_or_bad, options_of, AreOptions};
+ghost use Rattle.tclv_reply.specs.Options.{known_or_bad, options_read, AreOptions};
 
 use crate::numbers::check_index;
 use crate::replies::{refuse_count, refuse_on};
 use crate::words::{make_word, word_at, word_is};
-use tclv_model::{CmdFault, MessageId};
+use tclv_model::{CmdFault, MessageId, Usage};
 use tclv_value::Store;
 
 /// What the options of a command that have no value settle.
@@ -70,15 +71,14 @@ pub fn read_options<S: Settings>(
     words: OptionWords,
     plain: S,
     name: &str,
-    usage: &str,
+    usage: Usage,
 ) -> Result<(S, Option<usize>), CmdFault>
     requires call { words.call < length store.old.stack }
     requires order { words.from ≤ words.to }
     requires within { words.to ≤ length store.old.stack }
     requires name { IsTrue (list_all is_ascii name.now) }
-    requires usage { IsTrue (list_all is_ascii usage.now) }
-    ensures { Reads (options_of name.now (λ o s. known_or_bad o (S.after o s))
-        (wrong_count (slice_index_or store.old.stack words.call []) usage.now)
+    ensures { Reads (options_read name.now (λ o s. known_or_bad o (S.after o s))
+        (wrong_count (slice_index_or store.old.stack words.call []) (usage_of usage))
         (take (words.to - words.from) (drop words.from store.old.stack))
         (record { settings = plain; index = None })) (AreOptions store.old.stack)
         store.old store.new result }

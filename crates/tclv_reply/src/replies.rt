@@ -7,6 +7,7 @@ ghost use Rattle.tclv_text.specs.Texts.{IsText};
 ghost use Rattle.tclv_text.specs.Numbers.{whole_text};
 ghost use Rattle.tclv_model.specs.Message.{text_of};
 ghost use Rattle.tclv_model.specs.Rows.{wrong_count};
+ghost use Rattle.tclv_model.specs.Usages.{usage_of};
 ghost use Rattle.tclv_model.specs.declared.data_commands.CmdFault.TheVariants.{WrongArgs, Message};
 ghost use Rattle.tclv_value.specs.View.{HasPlace, IsMade, KeepsMade};
 ghost use Rattle.tclv_value.specs.declared.places.At.TheVariants.{Stack};
@@ -15,7 +16,7 @@ ghost use Rattle.tclv_reply.specs.Replies.{call_word, Answers, Grows, Refused, T
 
 use crate::words::{make_word, word_at};
 use itoa::Buffer;
-use tclv_model::{CmdFault, MessageId, message};
+use tclv_model::{CmdFault, MessageId, Usage, message, usage_text};
 use tclv_text::{NoMemory, Text};
 use tclv_value::{At, Store};
 
@@ -232,25 +233,29 @@ pub fn refuse_on(store: &mut Store, kind: MessageId, at: usize, code: &str) -> C
 }
 
 /// Refuses the number of words with the usage of the command, whose word is at a place.
-pub fn refuse_count(store: &mut Store, at: usize, usage: &str) -> CmdFault
-    requires place { at < length store.old.stack }
-    requires usage { IsTrue (list_all is_ascii usage.now) }
+pub fn refuse_count(store: &mut Store, at: usize, usage: Usage) -> CmdFault
+    requires { at < length store.old.stack }
     ensures grows { Grows store.old store.new }
-    ensures refused { Refused {A = List ℕ} (wrong_count (slice_index_or store.old.stack at []) usage.now)
+    ensures refused { Refused {A = List ℕ} (wrong_count (slice_index_or store.old.stack at []) (usage_of usage))
         result store.old.stack store.new.stack }
 {
-    match push_refusal_on(store, MessageId::WrongArguments, at, usage, "TCL WRONGARGS") {
+    match push_refusal_on(
+        store,
+        MessageId::WrongArguments,
+        at,
+        usage_text(usage),
+        "TCL WRONGARGS",
+    ) {
         Ok(()) => CmdFault::WrongArgs,
         Err(_) => CmdFault::NoMemory,
     }
 }
 
-/// Ends a call that has `n` words and can't have so many. The usage, which is ASCII, stands behind
+/// Ends a call that has `n` words and can't have so many. The usage of its command stands behind
 /// the word of the call in the message.
-pub fn refuse_words(store: &mut Store, n: usize, usage: &str) -> Result<(), CmdFault>
-    requires words { n + 1 ≤ length store.old.stack }
-    requires usage { IsTrue (list_all is_ascii usage.now) }
-    ensures { Answers (wrong_count (call_word n store.old.stack) usage.now) n
+pub fn refuse_words(store: &mut Store, n: usize, usage: Usage) -> Result<(), CmdFault>
+    requires { n + 1 ≤ length store.old.stack }
+    ensures { Answers (wrong_count (call_word n store.old.stack) (usage_of usage)) n
         store.old store.new result }
 {
     let height = store.height();

@@ -39,7 +39,7 @@ returns-then-left-ne2-clause-reads c =
     let there : left ≤ length s.stack = omega (arith, parts) in
     let row = ending_left call s.stack from left k c.requires.place parts ∙ odd_left call s.stack left there short (λ z. omega (arith, z, c.if-left-eq0.false)) (λ z. omega (arith, z, c.if-left-ne2.true)) in
     reads_count (ending call (drop from s.stack)) _ call (usage_of Try) s c.refuse_count.new.store c.refuse_count.result row c.refuse_count.ensures.grows
-    (subst (λ (u : List ℕ). Refused {A = List ℕ} (wrong_count call u) c.refuse_count.result s.stack c.refuse_count.new.store.stack) c.usage_text.ensures.text c.refuse_count.ensures.refused)
+    c.refuse_count.ensures.refused
 
 pub returns-then-branch-clause-reads : goal.returns-then-branch-clause-reads
 returns-then-branch-clause-reads c =
@@ -82,4 +82,4 @@ returns-else-branch-clause-reads c =
     let row = ending_left call s.stack from left k c.requires.place parts ∙ two_left call s.stack left false two long is in
     reads_after (ending call (drop from s.stack)) (wrong_count (get_or mid.stack c.args.call []) (usage_of Try)) _ s mid new _ kept (row ∙ ap (λ (q : List Text). wrong_count (get_or q c.args.call []) (usage_of Try)) (sym kept.stack))
     (reads_count (wrong_count (get_or mid.stack c.args.call []) (usage_of Try)) _ (get_or mid.stack c.args.call []) (usage_of Try) mid new kind refl c.refuse_count-else-branch.ensures.grows
-    (subst (λ (u : List ℕ). Refused {A = List ℕ} (wrong_count (get_or mid.stack c.args.call []) u) kind mid.stack new.stack) c.usage_text-else-branch.ensures.text c.refuse_count-else-branch.ensures.refused))
+    c.refuse_count-else-branch.ensures.refused)

@@ -49,4 +49,4 @@ returns-in-Unknown-clause-reads c =
     let what = get_or s.stack c.args.at [] in
     let call = get_or s.stack c.args.call [] in
     reads_count (wanted call c.args.handling what) _ call (usage_of Try) s c.refuse_count.new.store c.refuse_count.result (ap (λ (h : Handling). wanted call h what) c.in-Unknown.is) c.refuse_count.ensures.grows
-    (subst (λ (u : List ℕ). Refused {A = List ℕ} (wrong_count call u) c.refuse_count.result s.stack c.refuse_count.new.store.stack) c.usage_text.ensures.text c.refuse_count.ensures.refused)
+    c.refuse_count.ensures.refused

@@ -19,7 +19,7 @@ returns-then-n-eq0 c =
     let mid = c.refuse_count-kind.new.store in
     let kind = c.refuse_count-kind.result in
     let word = get_or s.stack (h - 1) [] in
-    let said = subst (λ (u : List ℕ). Refused {A = List ℕ} (wrong_count word u) kind s.stack mid.stack) c.usage_text.ensures.text c.refuse_count-kind.ensures.refused in
+    let said = c.refuse_count-kind.ensures.refused in
     refused_so (handlers_of (call_word n s.stack) (top n s.stack)) (wrong_count word (usage_of Try)) _ n s mid c.settle_refusal.new.store h kind c.settle_refusal.result
     (no_words s.stack n h c.height-height.ensures (omega (arith, c.if-n-eq0.true))) c.height-height.ensures (omega (arith, c.if-n-eq0.true)) c.settle_refusal.ensures.same c.refuse_count-kind.ensures.grows
     (count_refused Handlers word (usage_of Try) kind s.stack mid.stack said) c.settle_refusal.ensures.settles

@@ -20,7 +20,7 @@ returns-then-n-ne3 c =
     let call = call_word n s.stack in
     let kind = c.refuse_count.result in
     let new = c.refuse_count.new.store in
-    let told = subst (λ (u : List ℕ). Refused {A = List ℕ} (wrong_count (get_or s.stack (c.height-height.result - n - 1) []) u) kind s.stack new.stack) c.usage_text.ensures.text c.refuse_count.ensures.refused in
+    let told = c.refuse_count.ensures.refused in
     let said = subst (λ (h : ℕ). Refused {A = List ℕ} (wrong_count (get_or s.stack (h - n - 1) []) (usage_of Proc)) kind s.stack new.stack) c.height-height.ensures told in
     finds_count (proc_of call (top n s.stack)) _ call (usage_of Proc) s new kind (wrong_words call s.stack n (λ e. omega (arith, e)) (omega arith)) c.refuse_count.ensures.grows said
 

@@ -17,7 +17,7 @@ returns-then-n-lt2-clause-plans c =
     let kind = c.refuse_count-kind.result in
     let mid = c.refuse_count-kind.new.store in
     let row = row_switch call (top n s.stack) in
-    let said = subst (λ (h : ℕ). Refused {A = List ℕ} (wrong_count (get_or s.stack (h - n - 1) []) usage) kind s.stack mid.stack) c.height-height.ensures (subst (λ (u : List ℕ). Refused {A = List ℕ} (wrong_count (get_or s.stack (c.height-height.result - n - 1) []) u) kind s.stack mid.stack) c.usage_text.ensures.text c.refuse_count-kind.ensures.refused) in
+    let said = subst (λ (h : ℕ). Refused {A = List ℕ} (wrong_count (get_or s.stack (h - n - 1) []) usage) kind s.stack mid.stack) c.height-height.ensures c.refuse_count-kind.ensures.refused in
     plans_refused row n s mid c.settle_refusal.new.store c.height-height.result kind c.settle_refusal.result c.height-height.ensures (omega (arith, c.height-height.ensures)) c.settle_refusal.ensures.same c.refuse_count-kind.ensures.grows (count_fails row call kind s.stack mid.stack (few_words call s.stack n (omega arith) (omega arith)) said) c.settle_refusal.ensures.settles
 
 pub settle_refusal-requires-in-Err-clause-left : goal.settle_refusal-requires-in-Err-clause-left

@@ -1,7 +1,7 @@
 use Rattle.std.proofs.Common.{◌≡◌, ◌-◌, ◌∙◌, List, ℕ, [], None, length, get_or, sym, ap, arith}
 use Rattle.tclv_value.specs.Stacks.{top}
 use Rattle.tclv_reply.specs.Replies.{call_word}
-use Rattle.tclv_lists.specs.Sequences.{counting, between, three_words, four_words, five_words, lseq_count, row_lseq}
+use Rattle.tclv_lists.specs.Sequences.{counting, from_to, three_words, four_words, five_words, lseq_count, row_lseq}
 use Rattle.tclv_reply.proofs.Laws.{begun, leaves_on, one_word, two_words, count_words, three_words as three_top}
 use Rattle.tclv_lists.proofs.SequenceLemmas.{four_top, five_top, lseq_other}
 use Rattle.tclv_lists.proofs.sequences.push_numbers.Goals as goal
@@ -24,7 +24,7 @@ returns-then-n-eq2 c =
     let height = c.height-height.result in
     let w : ℕ → ℕ → List ℕ = λ k m. get_or s (k - m) [] in
     let row = row_lseq (call_word n s) (top n s) in
-    leaves_on (between (w height 2) (w height 1) None) (begun row old) (ap (row_lseq (call_word n s)) (two_words s [] n c.if-n-eq2.true (omega arith)) ∙ ap (λ (k : ℕ). between (w k 2) (w k 1) None) (sym c.height-height.ensures)) c.push_between.ensures
+    leaves_on (from_to (w height 2) (w height 1) None) (begun row old) (ap (row_lseq (call_word n s)) (two_words s [] n c.if-n-eq2.true (omega arith)) ∙ ap (λ (k : ℕ). from_to (w k 2) (w k 1) None) (sym c.height-height.ensures)) c.push_between.ensures
 
 pub returns-then-n-eq3 : goal.returns-then-n-eq3
 returns-then-n-eq3 c =

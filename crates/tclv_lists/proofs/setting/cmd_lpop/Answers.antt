@@ -1,3 +1,5 @@
+use Rattle.tclv_model.specs.declared.usages.Usage.TheVariants as command
+use Rattle.tclv_model.specs.Usages.{usage_of}
 use Rattle.std.proofs.Common.{◌≤◌, ◌-◌, ◌∙◌, List, ℕ, [], get_or, sym, ap, arith}
 use Rattle.std.specs.Prelude.{codes}
 use Rattle.tclv_value.specs.Stacks.{top}
@@ -41,4 +43,4 @@ returns c =
     let n = c.args.n in
     let count = count_words s [] n (omega arith) in
     var_as _ _ c.args.variable n _ _ _ (lpop_count (call_word n s) (top n s) (variable_of c.args.variable old) (λ e. c.if-n-eq1.false (sym count ∙ e)) (λ e. c.if-n-eq2.false (sym count ∙ e)))
-    (var_count (call_word n s) (codes " varName ?index?") c.args.variable n old c.refuse_words.new.store c.refuse_words.result c.refuse_words.ensures)
+    (var_count (call_word n s) (usage_of command.Lpop) c.args.variable n old c.refuse_words.new.store c.refuse_words.result c.refuse_words.ensures)

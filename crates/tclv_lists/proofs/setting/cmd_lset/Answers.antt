@@ -1,5 +1,6 @@
+use Rattle.tclv_model.specs.declared.usages.Usage.TheVariants as command
+use Rattle.tclv_model.specs.Usages.{usage_of}
 use Rattle.std.proofs.Common.{◌≡◌, ◌≤◌, ◌+◌, ◌-◌, ◌∙◌, List, ℕ, [], length, take, drop, get_or, sym, ap, arith}
-use Rattle.std.specs.Prelude.{codes}
 use Rattle.std.proofs.lemmas.List.{get_or-drop}
 use Rattle.tclv_value.specs.Stacks.{top}
 use Rattle.tclv_reply.specs.Replies.{call_word, variable_of}
@@ -14,7 +15,7 @@ returns-then-n-lt2 c =
     let old = c.args.store.now in
     let n = c.args.n in
     var_as _ _ c.args.variable n _ _ _ (lset_count (call_word n old.stack) (top n old.stack) (variable_of c.args.variable old) (omega (arith, count_words old.stack [] n (omega arith))))
-    (var_count (call_word n old.stack) (codes " varName ?index ...? newValue") c.args.variable n old c.refuse_words.new.store c.refuse_words.result c.refuse_words.ensures)
+    (var_count (call_word n old.stack) (usage_of command.Lset) c.args.variable n old c.refuse_words.new.store c.refuse_words.result c.refuse_words.ensures)
 
 -- the words are the name, the indices and the value
 words_are : (s : List (List ℕ)) (n height : ℕ) → height ≡ length s → 2 ≤ n → n ≤ length s →

@@ -3,8 +3,9 @@ use Rattle.std.specs.Prelude.{ℤ}
 use Rattle.std.specs.Option.{option_map}
 use Rattle.std.proofs.lemmas.Result.{err_from_is_err_and}
 use Rattle.tclv_model.specs.Rows.{Answer, wrong_count}
+use Rattle.tclv_model.specs.Usages.{usage_of}
 use Rattle.tclv_model.specs.Values.{place_of}
-use Rattle.tclv_reply.specs.Options.{Options, known_or_bad, options_of}
+use Rattle.tclv_reply.specs.Options.{Options, known_or_bad, options_read}
 use Rattle.tclv_reply.proofs.ReplyLemmas.{grows_trans, refused_after}
 use Rattle.tclv_reply.proofs.StepLemmas.{read_on, refused_there, went_as, went_kept}
 use Rattle.tclv_reply.proofs.OptionSteps.{word_same, value_step, missing_step, word_step, count_refused, reads_refused}
@@ -15,7 +16,7 @@ returns-then-at-words g c =
     let old = c.args.store.now in
     let s = old.stack in
     let name = c.args.name.now in
-    let usage = c.args.usage.now in
+    let usage = usage_of c.args.usage in
     let set : List ℕ → g.row.S.Denot → Answer g.row.S.Denot = λ o y. known_or_bad o (g.S.Settings.after o y) in
     let mid = c.word_is.new.store in
     let call = c.args.words.call in
@@ -32,14 +33,14 @@ returns-in_err-check_index g c =
     let s = c.args.store.now.stack in
     let name = c.args.name.now in
     let set : List ℕ → g.row.S.Denot → Answer g.row.S.Denot = λ o y. known_or_bad o (g.S.Settings.after o y) in
-    let missing : Answer (Options g.row.S.Denot) = wrong_count (get_or s c.args.words.call []) c.args.usage.now in
+    let missing : Answer (Options g.row.S.Denot) = wrong_count (get_or s c.args.words.call []) (usage_of c.args.usage) in
     let at = c.words.at in
     let to = c.args.words.to in
     let x : Options g.row.S.Denot = record { settings = c.words.settings; index = option_map (λ k. get_or s k []) c.words.index } in
     let w = went_kept c.words.invariant.came c.in_ok-word_is.ensures.kept in
     let e = word_same at name true c.in_ok-word_is.field-0 c.words.invariant.came c.in_ok-word_is.ensures.is c.if-branch.true in
     let v = value_step name set missing at to x c.words-test.true c.requires.within w e c.if-at-words.false in
-    let f : ℤ → Answer (Options g.row.S.Denot) = λ _. options_of name set missing (take (to - (at + 2)) (drop (at + 2) s)) (record { settings = c.words.settings; index = Some (get_or s (at + 1) []) }) in
+    let f : ℤ → Answer (Options g.row.S.Denot) = λ _. options_read name set missing (take (to - (at + 2)) (drop (at + 2) s)) (record { settings = c.words.settings; index = Some (get_or s (at + 1) []) }) in
     let r = refused_there (place_of (get_or s (at + 1) []) 0) f v (place_of (get_or c.word_is.new.store.stack (at + 1) []) 0) (ap (λ (q : List (List ℕ)). place_of (get_or q (at + 1) []) 0) (sym w.same)) c.in_err-check_index.ensures in
     let p = err_from_is_err_and c.from_residual-in_err-check_index.result c.from_residual-in_err-check_index.ensures.1 in
     rw (p.1, p.2) (reads_refused r.0 r.1)
@@ -49,14 +50,14 @@ words-preserved-then-branch g c =
     let s = c.args.store.now.stack in
     let name = c.args.name.now in
     let set : List ℕ → g.row.S.Denot → Answer g.row.S.Denot = λ o y. known_or_bad o (g.S.Settings.after o y) in
-    let missing : Answer (Options g.row.S.Denot) = wrong_count (get_or s c.args.words.call []) c.args.usage.now in
+    let missing : Answer (Options g.row.S.Denot) = wrong_count (get_or s c.args.words.call []) (usage_of c.args.usage) in
     let at = c.words.at in
     let to = c.args.words.to in
     let x : Options g.row.S.Denot = record { settings = c.words.settings; index = option_map (λ k. get_or s k []) c.words.index } in
     let w = went_kept c.words.invariant.came c.in_ok-word_is.ensures.kept in
     let e = word_same at name true c.in_ok-word_is.field-0 c.words.invariant.came c.in_ok-word_is.ensures.is c.if-branch.true in
     let v = value_step name set missing at to x c.words-test.true c.requires.within w e c.if-at-words.false in
-    let f : ℤ → Answer (Options g.row.S.Denot) = λ _. options_of name set missing (take (to - (at + 2)) (drop (at + 2) s)) (record { settings = c.words.settings; index = Some (get_or s (at + 1) []) }) in
+    let f : ℤ → Answer (Options g.row.S.Denot) = λ _. options_read name set missing (take (to - (at + 2)) (drop (at + 2) s)) (record { settings = c.words.settings; index = Some (get_or s (at + 1) []) }) in
     let r = read_on (place_of (get_or s (at + 1) []) 0) f v (place_of (get_or c.word_is.new.store.stack (at + 1) []) 0) (ap (λ (q : List (List ℕ)). place_of (get_or q (at + 1) []) 0) (sym w.same)) c.in_ok-check_index.ensures in
     record {
       came = r.went;
@@ -69,14 +70,14 @@ returns-in_err-settings g c =
     let s = c.args.store.now.stack in
     let name = c.args.name.now in
     let set : List ℕ → g.row.S.Denot → Answer g.row.S.Denot = λ o y. known_or_bad o (g.S.Settings.after o y) in
-    let missing : Answer (Options g.row.S.Denot) = wrong_count (get_or s c.args.words.call []) c.args.usage.now in
+    let missing : Answer (Options g.row.S.Denot) = wrong_count (get_or s c.args.words.call []) (usage_of c.args.usage) in
     let at = c.words.at in
     let to = c.args.words.to in
     let x : Options g.row.S.Denot = record { settings = c.words.settings; index = option_map (λ k. get_or s k []) c.words.index } in
     let w = went_kept c.words.invariant.came c.in_ok-word_is.ensures.kept in
     let e = word_same at name false c.in_ok-word_is.field-0 c.words.invariant.came c.in_ok-word_is.ensures.is c.if-branch.false in
     let v = word_step name set missing at to x c.words-test.true c.requires.within w e in
-    let f : g.row.S.Denot → Answer (Options g.row.S.Denot) = λ y. options_of name set missing (take (to - (at + 1)) (drop (at + 1) s)) (record { settings = y; index = x.index }) in
+    let f : g.row.S.Denot → Answer (Options g.row.S.Denot) = λ y. options_read name set missing (take (to - (at + 1)) (drop (at + 1) s)) (record { settings = y; index = x.index }) in
     let r = refused_there (set (get_or s at []) c.words.settings) f v (set (get_or c.word_is.new.store.stack at []) c.words.settings) (ap (λ (q : List (List ℕ)). set (get_or q at []) c.words.settings) (sym w.same)) c.in_err-settings.ensures in
     let p = err_from_is_err_and c.from_residual-in_err-settings.result c.from_residual-in_err-settings.ensures.1 in
     rw (p.1, p.2) (reads_refused r.0 r.1)
@@ -86,14 +87,14 @@ words-preserved g c =
     let s = c.args.store.now.stack in
     let name = c.args.name.now in
     let set : List ℕ → g.row.S.Denot → Answer g.row.S.Denot = λ o y. known_or_bad o (g.S.Settings.after o y) in
-    let missing : Answer (Options g.row.S.Denot) = wrong_count (get_or s c.args.words.call []) c.args.usage.now in
+    let missing : Answer (Options g.row.S.Denot) = wrong_count (get_or s c.args.words.call []) (usage_of c.args.usage) in
     let at = c.words.at in
     let to = c.args.words.to in
     let x : Options g.row.S.Denot = record { settings = c.words.settings; index = option_map (λ k. get_or s k []) c.words.index } in
     let w = went_kept c.words.invariant.came c.in_ok-word_is.ensures.kept in
     let e = word_same at name false c.in_ok-word_is.field-0 c.words.invariant.came c.in_ok-word_is.ensures.is c.if-branch.false in
     let v = word_step name set missing at to x c.words-test.true c.requires.within w e in
-    let f : g.row.S.Denot → Answer (Options g.row.S.Denot) = λ y. options_of name set missing (take (to - (at + 1)) (drop (at + 1) s)) (record { settings = y; index = x.index }) in
+    let f : g.row.S.Denot → Answer (Options g.row.S.Denot) = λ y. options_read name set missing (take (to - (at + 1)) (drop (at + 1) s)) (record { settings = y; index = x.index }) in
     let r = read_on (set (get_or s at []) c.words.settings) f v (set (get_or c.word_is.new.store.stack at []) c.words.settings) (ap (λ (q : List (List ℕ)). set (get_or q at []) c.words.settings) (sym w.same)) c.in_ok-settings.ensures in
     record {
       came = went_as _ r.went (ap f (sym r.shown));
@@ -106,7 +107,7 @@ returns g c =
     let s = c.args.store.now.stack in
     let name = c.args.name.now in
     let set : List ℕ → g.row.S.Denot → Answer g.row.S.Denot = λ o y. known_or_bad o (g.S.Settings.after o y) in
-    let missing : Answer (Options g.row.S.Denot) = wrong_count (get_or s c.args.words.call []) c.args.usage.now in
+    let missing : Answer (Options g.row.S.Denot) = wrong_count (get_or s c.args.words.call []) (usage_of c.args.usage) in
     let x : Options g.row.S.Denot = record { settings = c.words.settings; index = option_map (λ k. get_or s k []) c.words.index } in
     let w = c.words.invariant.came in
     let end : c.args.words.to - c.words.at ≡ 0 = omega (arith, c.words-test.false) in
@@ -115,7 +116,7 @@ returns g c =
       kept = w.same;
       gives = record {
         read = x;
-        given = w.is ∙ ap (λ (k : ℕ). options_of name set missing (take k (drop c.words.at s)) x) end;
+        given = w.is ∙ ap (λ (k : ℕ). options_read name set missing (take k (drop c.words.at s)) x) end;
         shown = record { settings = refl; index = refl; within = c.words.invariant.there };
       };
       refuses = tt;
