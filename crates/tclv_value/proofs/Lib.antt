@@ -22,7 +22,9 @@ pub mod SetPlaceLemmas
 pub mod WayLemmas
 pub mod DropLemmas
 pub mod SetOneLemmas
+pub mod OpenLemmas
 pub mod WayPlaceLemmas
+pub mod OpenPlaceLemmas
 pub mod LeftoverLemmas
 pub mod CallerLemmas
 pub mod ElementLemmas

@@ -1,11 +1,13 @@
 -- What a value that is put at the end of a path into a list does to the objects.
-use Rattle.std.specs.Prelude.{◌≡◌, ◌≢◌, ◌↔◌, ℕ, ◌-◌, ◌<◌, length, IsOkAnd}
+use Rattle.std.specs.Prelude.{◌≡◌, ◌≢◌, ◌↔◌, ℕ, ◌+◌, ◌-◌, ◌<◌, length, take, IsOkAnd}
 use Rattle.tclv_text.specs.Elements.{elements}
 use Rattle.tclv_heap.specs.Stands.{deepest}
 use Rattle.tclv_value.specs.ListObjects.{IsListAt, IsAloneAt, IsNewAt, depth_at}
 use Rattle.tclv_value.specs.Paths.{NamesElement}
 use Rattle.tclv_value.specs.Setting.{copied_more}
+use Rattle.tclv_value.specs.Stacks.{top}
 use Rattle.tclv_value.specs.View.{View, IsMade, id_of, text_at}
+use Rattle.tclv_value.specs.Ways.{LeadsOpen}
 use Rattle.tclv_value.specs.declared.faults.ValueFault.{ValueFault}
 use Rattle.tclv_value.specs.declared.faults.ValueFault.TheVariants as fault
 use Rattle.tclv_value.specs.declared.places.At.{At}
@@ -42,3 +44,13 @@ CopiesElements old place path new = IsReady old path → IsListAt old place → 
 -- Want of memory is no answer where a path that is ready names an element of a list object that no other holder has.
 unfoldable pub NeedsNoMemory : View → At → ℕ → ValueFault → Type 0
 NeedsNoMemory old place path why = IsReady old path → IsAloneList old place → NamesElement (text_at old place) (text_at old (Stack (length old.stack - 2))) → why ≢ fault.NoMemory
+
+-- The texts of the indices of a path, which lie below the value, are made. From the object of the place on, along the path, each object is kept as a list and has one holder alone,
+-- and each depth stays in bounds with the value at the end.
+pub record IsOpenAt (v : View) (place : At) (path : ℕ) : Type 0 where
+  pub made : (k : ℕ) → k < path → IsMade v (Stack (length v.stack - (path + 1) + k))
+  pub leads : LeadsOpen v.graph (id_of v (Stack (length v.stack - 1))) deepest (id_of v place) (take path (top (path + 1) v.stack_ids))
+
+-- Along a path of any length that is open the same object stands at the place afterwards, which is kept as a list, and no counter rises.
+unfoldable pub SetsAlong : View → At → ℕ → View → Type 0
+SetsAlong old place path new = IsOpenAt old place path → (id_of new place ≡ id_of old place) × IsListAt new place × (new.stats ≡ old.stats)

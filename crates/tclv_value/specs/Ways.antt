@@ -1,6 +1,7 @@
 -- A way of places through lists in lists, and a value that is put at its end in place.
-use Rattle.std.specs.Prelude.{◌≡◌, ◌≢◌, ℕ, ◌+◌, ◌-◌, ◌<◌, ◌≤◌, List, [], ◌∷◌, map, length, max, Option, Some, IsSome, slice_get, slice_index_or}
+use Rattle.std.specs.Prelude.{◌≡◌, ◌≢◌, ℕ, ◌+◌, ◌-◌, ◌<◌, ◌≤◌, List, [], ◌∷◌, map, length, max, Option, Some, IsSome, Ok, slice_get, slice_index_or}
 use Rattle.std.specs.Option.{unwrap_or}
+use Rattle.tclv_text.specs.Indices.{index}
 use Rattle.tclv_text.specs.Quotes.{list_text}
 use Rattle.tclv_forms.specs.Lists.{Items}
 use Rattle.tclv_heap.specs.Graph.{Graph, at, occurs, count_in, depth_in, form_in}
@@ -8,7 +9,7 @@ use Rattle.tclv_heap.specs.Holders.{Holders}
 use Rattle.tclv_heap.specs.Stands.{IsSound, IsClosed, depth_of}
 use Rattle.tclv_value.specs.Forms.{form_table}
 use Rattle.tclv_value.specs.Kept.{list_at}
-use Rattle.tclv_value.specs.Paths.{put_at}
+use Rattle.tclv_value.specs.Paths.{place_or, put_at}
 use Rattle.tclv_value.specs.Places.{text_of, made_of}
 use Rattle.tclv_value.specs.Setting.{HasRoomAt}
 use Rattle.tclv_value.specs.declared.forms.Form.{Form}
@@ -34,6 +35,18 @@ pub data Opens (g : Graph Form) (next : Option Items) (value : ℕ) : ℕ → �
   goes : {high id k part : ℕ} {ks : List ℕ} → IsUnshared g high id k → 1 < high
       → slice_get (ids_at g id) k ≡ Some part → Opens g next value (high - 1) part ks
       → Opens g next value high id (k ∷ ks)
+
+-- the index names this place in the object's list: that of an element, or the one behind the last
+abbrev pub NamesPlace : Graph Form → ℕ → ℕ → ℕ → Type 0
+NamesPlace g id i k = place_or 0 (length (ids_at g id)) (index (text_of g i) (length (ids_at g id))) ≡ Ok k
+
+-- The indices lead from an object on along a way of which each object is kept as a list and has one holder alone, and where each depth stays in bounds with the value at its end.
+pub data LeadsOpen (g : Graph Form) (value : ℕ) : ℕ → ℕ → List ℕ → Type 0 where
+  last : {high id i k : ℕ} → IsUnshared g high id k → NamesPlace g id i k → depth_of (at g value) < high
+      → LeadsOpen g value high id (i ∷ [])
+  more : {high id i k part : ℕ} {indices : List ℕ} → IsUnshared g high id k → NamesPlace g id i k → 1 < high
+      → slice_get (ids_at g id) k ≡ Some part → LeadsOpen g value (high - 1) part indices
+      → LeadsOpen g value high id (i ∷ indices)
 
 -- the text of an object where another text stands at the end of a way
 abbrev pub text_along : Graph Form → ℕ → List ℕ → List ℕ → List ℕ

@@ -2,7 +2,7 @@
 ghost use Rattle.std.specs.Prelude.{◌≡◌, Some, Ok, Err, IfOk, IfErr};
 ghost use Rattle.tclv_text.specs.Truths.{truth};
 ghost use Rattle.tclv_parse.specs.Grammar.{commands};
-ghost use Rattle.tclv_exprp.specs.ExpressionGrammar.{expression, Answers};
+ghost use Rattle.tclv_exprp.specs.Flat.{instructions_of, Answers};
 ghost use Rattle.tclv_value.specs.View.{HasPlace, text_at, StaysMade};
 ghost use Rattle.tclv_value.specs.Answers.{RefusesTruth};
 ghost use Rattle.tclv_value.specs.Changes.{KeepsTexts};
@@ -10,9 +10,10 @@ ghost use Rattle.tclv_value.specs.Changes.{KeepsTexts};
 use crate::faults::ValueFault;
 use crate::places::At;
 use crate::store::Store;
+use sqlite_items::Items;
 use std::alloc::Global;
 use std::rc::Rc;
-use tclv_exprp::{ExprFault, ExprTree, parse_expr};
+use tclv_exprp::{ExprFault, Instruction, parse_instructions};
 use tclv_parse::{Script, parse};
 use tclv_text::{NoMemory, truth};
 
@@ -47,28 +48,28 @@ impl Store {
         Ok(Rc::new(self.alloc(), tree)?)
     }
 
-    /// The tree of the expression that the text of a place is, as `tclv_exprp::parse_expr` reads it.
-    /// No text changes.
+    /// The instructions of the expression that the text of a place is, as
+    /// `tclv_exprp::parse_instructions` gives them. No text changes.
     ///
     /// Refuses with the first fault of the text from the left, exactly where that call does. (Tcl:
     /// expr(n).)
-    pub fn expr(&mut self, at: At) -> Result<Rc<ExprTree>, ExprFault>
+    pub fn expr(&mut self, at: At) -> Result<Rc<Items<Instruction>>, ExprFault>
         requires { HasPlace self.old at }
-        ensures tree { IfOk result (λ tree. expression (text_at self.old at) ≡ Ok tree.value) }
+        ensures instructions { IfOk result (λ found. instructions_of (text_at self.old at) ≡ Ok found.value) }
         ensures refused { IfErr result (λ fault.
-            Answers (expression (text_at self.old at)) (Err fault)) }
+            Answers (instructions_of (text_at self.old at)) (Err fault)) }
         ensures kept { KeepsTexts self.old self.new }
     {
         self.make_text(at)?;
-        let tree = parse_expr(self.alloc(), self.made_text(at))?;
-        let shared = shared(self.alloc(), tree)?;
+        let read = parse_instructions(self.alloc(), self.made_text(at))?;
+        let shared = shared(self.alloc(), read)?;
         Ok(shared)
     }
 }
 
-// A tree that can be held in several places.
-fn shared(alloc: Global, tree: ExprTree) -> Result<Rc<ExprTree>, NoMemory>
-    ensures { IfOk result (λ shared. shared.value ≡ tree) }
+// Instructions that can be held in several places.
+fn shared(alloc: Global, read: Items<Instruction>) -> Result<Rc<Items<Instruction>>, NoMemory>
+    ensures { IfOk result (λ shared. shared.value ≡ read) }
 {
-    Ok(Rc::new(alloc, tree)?)
+    Ok(Rc::new(alloc, read)?)
 }

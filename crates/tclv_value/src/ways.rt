@@ -1,15 +1,15 @@
 // A value that is put at the end of a way through lists in lists, in place.
-ghost use Rattle.std.specs.Prelude.{◌≡◌, ◌<◌, ◌≤◌, [], ◌∷◌, ℕ, List, map, length, Ok, Some, IsSome, IfSome, IfOk};
+ghost use Rattle.std.specs.Prelude.{◌≡◌, ◌<◌, ◌≤◌, [], ◌∷◌, ℕ, List, map, length, Ok, Some, IsSome, IfSome, IfNone, IfOk};
 ghost use Rattle.std.specs.List.{All};
 ghost use Rattle.tclv_text.specs.Indices.{index};
 ghost use Rattle.tclv_forms.specs.Lists.{Items};
-ghost use Rattle.tclv_heap.specs.Graph.{at, form_in};
+ghost use Rattle.tclv_heap.specs.Graph.{at, form_in, text_in};
 ghost use Rattle.tclv_heap.specs.Stands.{deepest, depth_of};
 ghost use Rattle.tclv_value.specs.Kept.{list_at};
 ghost use Rattle.tclv_value.specs.Paths.{place_or, step, set_path};
 ghost use Rattle.tclv_value.specs.Places.{text_of};
 ghost use Rattle.tclv_value.specs.Setting.{HasRoomAt};
-ghost use Rattle.tclv_value.specs.Ways.{ids_at, IsUnshared, Opens, CanGo, Goes, text_along};
+ghost use Rattle.tclv_value.specs.Ways.{ids_at, IsUnshared, Opens, NamesPlace, LeadsOpen, CanGo, Goes, text_along};
 ghost use Rattle.tclv_value.specs.declared.forms.Form.TheVariants as form;
 
 use crate::forms::Forms;
@@ -71,10 +71,13 @@ pub(crate) fn find_way(
     requires indices { All (λ o. IsSome (at heap.now.graph o)) indices.now }
     requires some { 0 < length indices.now }
     requires value { IsSome (at heap.now.graph value) }
-    ensures { IfOk result (λ found. IfSome found (λ way.
+    ensures way { IfOk result (λ found. IfSome found (λ way.
         Opens heap.now.graph way.next value deepest id way.places.items
         × ((x : List ℕ) → set_path 0 (text_of heap.now.graph id) (map (text_of heap.now.graph) indices.now) x
         ≡ Ok (text_along heap.now.graph id way.places.items x)))) }
+    ensures none { IfOk result (λ found. IfNone found
+        (All (λ o. IsSome (text_in (at heap.now.graph o))) indices.now
+        → LeadsOpen heap.now.graph value deepest id indices.now → ⊥)) }
 {
     reach(heap, alloc, id, indices, value, 50)
 }
@@ -92,11 +95,14 @@ fn reach(
     requires indices { All (λ o. IsSome (at heap.now.graph o)) indices.now }
     requires some { 0 < length indices.now }
     requires value { IsSome (at heap.now.graph value) }
-    ensures { IfOk result (λ found. IfSome found (λ way.
+    ensures way { IfOk result (λ found. IfSome found (λ way.
         Opens heap.now.graph way.next value high id way.places.items
         × ((level : ℕ) (x : List ℕ)
         → set_path level (text_of heap.now.graph id) (map (text_of heap.now.graph) indices.now) x
         ≡ Ok (text_along heap.now.graph id way.places.items x)))) }
+    ensures none { IfOk result (λ found. IfNone found
+        (All (λ o. IsSome (text_in (at heap.now.graph o))) indices.now
+        → LeadsOpen heap.now.graph value high id indices.now → ⊥)) }
 {
     let Some(place) = opened(heap, id, indices[0], high) else {
         return Ok(None);
@@ -118,7 +124,8 @@ fn reach(
 
 // A way with one more place before it.
 fn way_from(alloc: Global, place: usize, rest: Way) -> Result<Option<Way>, NoMemory>
-    ensures { IfOk result (λ found. IfSome found (λ way.
+    ensures some { IfOk result (λ found. IsSome found) }
+    ensures way { IfOk result (λ found. IfSome found (λ way.
         (way.places.items ≡ place ∷ rest.places.items) × (way.next ≡ rest.next))) }
 {
     let mut places = Vec::with_capacity(alloc, rest.places.len() + 1)?;
@@ -135,9 +142,12 @@ fn way_from(alloc: Global, place: usize, rest: Way) -> Result<Option<Way>, NoMem
 fn opened(heap: &Heap<Forms>, id: ObjId, index: ObjId, high: u64) -> Option<usize>
     requires id { IsSome (at heap.now.graph id) }
     requires index { IsSome (at heap.now.graph index) }
-    ensures { IfSome result (λ k. IsUnshared heap.now.graph high id k × ((level : ℕ)
+    ensures some { IfSome result (λ k. IsUnshared heap.now.graph high id k × ((level : ℕ)
         → step level (text_of heap.now.graph id) (text_of heap.now.graph index)
         ≡ Ok (map (text_of heap.now.graph) (ids_at heap.now.graph id), k))) }
+    ensures none { IfNone result (IsSome (text_in (at heap.now.graph index))
+        → (k : ℕ) → IsUnshared heap.now.graph high id k → NamesPlace heap.now.graph id index k → ⊥) }
+    ensures names { IfSome result (λ k. NamesPlace heap.now.graph id index k) }
 {
     let list = kept_list(heap, id)?;
     if heap.count(id) != 1 || heap.form_depth(id) > high {
@@ -151,6 +161,8 @@ fn place_named(heap: &Heap<Forms>, named: ObjId, len: usize) -> Option<usize>
     requires { IsSome (at heap.now.graph named) }
     ensures place { IfSome result (λ k. place_or 0 len (index (text_of heap.now.graph named) len) ≡ Ok k) }
     ensures within { IfSome result (λ k. k ≤ len) }
+    ensures none { IfNone result (IsSome (text_in (at heap.now.graph named))
+        → (k : ℕ) → place_or 0 len (index (text_of heap.now.graph named) len) ≡ Ok k → ⊥) }
 {
     let text = heap.text(named)?;
     place_of(text, len, 0).ok()
@@ -167,7 +179,8 @@ fn end_of(
 ) -> Result<Option<Way>, NoMemory>
     requires list { IsSome (list_at heap.now.graph id) }
     requires value { IsSome (at heap.now.graph value) }
-    ensures { IfOk result (λ found. IfSome found (λ way. (way.places.items ≡ place ∷ [])
+    ensures none { IfOk result (λ found. IfNone found (high ≤ depth_of (at heap.now.graph value))) }
+    ensures way { IfOk result (λ found. IfSome found (λ way. (way.places.items ≡ place ∷ [])
         × (depth_of (at heap.now.graph value) < high)
         × ((list : Items) → form_in (at heap.now.graph id) ≡ Some (form.List list)
         → HasRoomAt place way.next list))) }

@@ -7,7 +7,7 @@ ghost use Rattle.tclv_value.specs.View.{HasPlace, IsMade, KeepsMade, text_at, id
 ghost use Rattle.tclv_value.specs.Stacks.{top};
 ghost use Rattle.tclv_value.specs.Changes.{IsUnder, KeepsTexts, Puts};
 ghost use Rattle.tclv_value.specs.ListObjects.{IsListAt, IsAloneAt, IsNewAt, depth_at, KeepsPlaces, KeepsLists, ObjectsStay};
-ghost use Rattle.tclv_value.specs.SetObjects.{SetsInPlace, SetsInCopy, MakesListAt, SetsWithoutWork, CopiesElements, NeedsNoMemory};
+ghost use Rattle.tclv_value.specs.SetObjects.{SetsInPlace, SetsInCopy, MakesListAt, SetsWithoutWork, CopiesElements, NeedsNoMemory, SetsAlong};
 ghost use Rattle.tclv_value.specs.Setting.{copied_more};
 ghost use Rattle.tclv_value.specs.Paths.{put_at, step, set_path, RefusesPath, NamesElement};
 ghost use Rattle.tclv_value.specs.declared.faults.ValueFault.{ValueFault};
@@ -56,6 +56,7 @@ impl Store {
         ensures counters { OnOk result (SetsWithoutWork self.old at path self.new) }
         ensures copies { OnOk result (CopiesElements self.old at path self.new) }
         ensures memory { IfErr result (λ why. NeedsNoMemory self.old at path why) }
+        ensures along { OnOk result (SetsAlong self.old at path self.new) }
     {
         if path == 1 {
             return self.set_one(at);

@@ -1,11 +1,12 @@
 // A value that is put at the end of a path of more than one index.
-ghost use Rattle.std.specs.Prelude.{◌≡◌, ◌+◌, ◌-◌, ◌<◌, ◌≤◌, ℕ, List, length, take, Ok, IsTrue, IsOkAnd, OnOk, OnErr, IfSome, IfOk, IfErr};
+ghost use Rattle.std.specs.Prelude.{◌≡◌, ◌+◌, ◌-◌, ◌<◌, ◌≤◌, ℕ, List, length, take, Ok, IsTrue, IsOkAnd, OnOk, OnErr, IfSome, IfNone, IfOk, IfErr};
 ghost use Rattle.tclv_heap.specs.Stands.{deepest};
 ghost use Rattle.tclv_value.specs.View.{HasPlace, text_at, id_of};
 ghost use Rattle.tclv_value.specs.Stacks.{top};
 ghost use Rattle.tclv_value.specs.Changes.{IsUnder, KeepsTexts, Grows, Puts};
 ghost use Rattle.tclv_value.specs.ListObjects.{IsListAt};
 ghost use Rattle.tclv_value.specs.Paths.{set_path, RefusesPath};
+ghost use Rattle.tclv_value.specs.SetObjects.{IsOpenAt, SetsAlong};
 ghost use Rattle.tclv_value.specs.Ways.{Opens, text_along};
 ghost use Rattle.tclv_value.specs.declared.places.At.TheVariants.{Stack};
 
@@ -30,11 +31,12 @@ impl Store {
             (set_path 0 (text_at self.old at) (take path (top (path + 1) self.old.stack))
             (text_at self.old (Stack (length self.old.stack - 1))))) }
         ensures kept { OnErr result (KeepsTexts self.old self.new) }
+        ensures along { OnOk result (SetsAlong self.old at path self.new) }
     {
-        self.write_indices(path)?;
         if self.set_along(at, path)? {
             return Ok(());
         }
+        self.write_indices(path)?;
         self.read_along(at, path);
         if self.set_along(at, path)? {
             return Ok(());
@@ -63,6 +65,8 @@ impl Store {
             (text_at self.old (Stack (length self.old.stack - 1))))
             (λ text. Puts self.old (path + 1) at text self.new)) }
         ensures same { IfOk result (λ done. IsTrue done → id_of self.new at ≡ id_of self.old at) }
+        ensures listed { IfOk result (λ done. IsTrue done → IsListAt self.new at) }
+        ensures finds { IfOk result (λ done. IsOpenAt self.old at path → IsTrue done) }
         ensures stats { self.new.stats ≡ self.old.stats }
         ensures kept { IfOk result (λ done. (IsTrue done → ⊥) → self.new ≡ self.old) }
         ensures refused { OnErr result (self.new ≡ self.old) }
@@ -90,7 +94,8 @@ impl Store {
     fn way_of(&self, at: At, path: usize) -> Result<Option<Way>, NoMemory>
         requires path { 0 < path }
         requires place { IsUnder self.now (path + 1) at }
-        ensures { IfOk result (λ found. IfSome found (λ way.
+        ensures none { IfOk result (λ found. IfNone found (IsOpenAt self.now at path → ⊥)) }
+        ensures way { IfOk result (λ found. IfSome found (λ way.
             Opens self.now.graph way.next (id_of self.now (Stack (length self.now.stack - 1))) deepest
             (id_of self.now at) way.places.items
             × ((x : List ℕ)

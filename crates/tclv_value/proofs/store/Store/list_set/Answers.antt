@@ -1,10 +1,12 @@
-use Rattle.std.proofs.Common.{◌-◌, length, subst}
+use Rattle.std.proofs.Common.{◌+◌, ◌-◌, length, subst}
 use Rattle.tclv_value.specs.declared.places.At.TheVariants.{Stack}
 use Rattle.std.specs.Prelude.{IfErr}
 use Rattle.tclv_value.specs.Paths.{set_path, RefusesPath}
-use Rattle.tclv_value.specs.SetObjects.{SetsInPlace, SetsInCopy, MakesListAt, SetsWithoutWork, CopiesElements, NeedsNoMemory}
+use Rattle.tclv_value.specs.SetObjects.{SetsInPlace, SetsInCopy, MakesListAt, SetsWithoutWork, CopiesElements, NeedsNoMemory, SetsAlong}
 use Rattle.tclv_value.specs.View.{text_at}
 use Rattle.tclv_value.proofs.AnswerLemmas.{on_ok}
+use Rattle.tclv_value.proofs.OpenPlaceLemmas.{one_along}
+use Rattle.tclv_value.proofs.WayPlaceLemmas.{under_high}
 use Rattle.tclv_value.proofs.SetOneLemmas.{on_ok_any, err_any, if_err, one_listed, as_path}
 use Rattle.tclv_value.proofs.store.Store.list_set.Goals as goal
 
@@ -61,3 +63,6 @@ returns-then-path-eq1-clause-copies c = on_ok c.set_one.result (λ counted ready
 pub returns-clause-copies : goal.returns-clause-copies
 unfolding CopiesElements
 returns-clause-copies c = on_ok_any c.set_deep.result (CopiesElements c.args.self.now c.args.at c.args.path c.set_deep.new.self) (λ ready. absurd (c.if-path-eq1.false ready.0))
+
+pub returns-then-path-eq1-clause-along : goal.returns-then-path-eq1-clause-along
+returns-then-path-eq1-clause-along c = one_along c.args.self.now c.set_one.new.self c.args.at c.args.path c.set_one.result c.if-path-eq1.true (under_high c.args.self.now (c.args.path + 1) c.args.at c.requires.place) c.set_one.ensures.same c.set_one.ensures.listed c.set_one.ensures.counters

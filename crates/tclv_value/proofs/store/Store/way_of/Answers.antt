@@ -1,7 +1,12 @@
-use Rattle.std.proofs.Common.{◌≡◌, ◌≤◌, ◌+◌, ◌-◌, length, take, get_or, ap, sym, ◌∙◌, arith}
+use Rattle.std.proofs.Common.{◌≡◌, ◌≤◌, ◌+◌, ◌-◌, length, take, get_or, IsSome, ap, sym, subst, ◌∙◌, arith}
+use Rattle.std.specs.List.{All}
 use Rattle.std.proofs.lemmas.List.{get_or_default}
+use Rattle.tclv_heap.specs.Graph.{at, text_in}
 use Rattle.tclv_value.specs.Places.{id_at}
 use Rattle.tclv_value.specs.Stacks.{top}
+use Rattle.tclv_value.specs.Ways.{LeadsOpen}
+use Rattle.tclv_value.proofs.OpenLemmas.{if_missing}
+use Rattle.tclv_value.proofs.OpenPlaceLemmas.{open_made, open_leads}
 use Rattle.tclv_value.proofs.ViewLemmas.{named_id, under_there, same_view}
 use Rattle.tclv_value.proofs.WayLemmas.{if_found}
 use Rattle.tclv_value.proofs.WayPlaceLemmas.{under_high, indices_there, indices_some, id_there, value_there, found_view}
@@ -51,9 +56,18 @@ find_way-requires-clause-value c =
     let b = (goal.at.find_way-requires-clause-value c).After-index-value in
     value_there c.self.inside.heap.graph c.self.inside.stack.items c.self.inside.cells.entries c.index-value.result.now c.object_at-id.result c.args.at c.args.self.now c.self.view_is c.self.invariant (id_is a) (value_is b) c.args.path c.requires.place
 
-pub returns : goal.returns
-returns c =
-    let a = (goal.at.returns c).After-object_at-id in
-    let b = (goal.at.returns c).After-index-value in
-    let i = (goal.at.returns c).After-index_objects-indices in
-    if_found c.find_way.result (λ way found. found_view c.self.inside.heap.graph c.self.inside.stack.items c.self.inside.cells.entries c.index-value.result.now c.object_at-id.result c.args.at c.args.self.now c.self.view_is c.self.invariant (id_is a) (value_is b) c.args.path c.requires.place way.next way.places.items c.index_objects-indices.result.now (indices_is i) found) c.find_way.ensures
+pub returns-clause-way : goal.returns-clause-way
+returns-clause-way c =
+    let a = (goal.at.returns-clause-way c).After-object_at-id in
+    let b = (goal.at.returns-clause-way c).After-index-value in
+    let i = (goal.at.returns-clause-way c).After-index_objects-indices in
+    if_found c.find_way.result (λ way found. found_view c.self.inside.heap.graph c.self.inside.stack.items c.self.inside.cells.entries c.index-value.result.now c.object_at-id.result c.args.at c.args.self.now c.self.view_is c.self.invariant (id_is a) (value_is b) c.args.path c.requires.place way.next way.places.items c.index_objects-indices.result.now (indices_is i) found) c.find_way.ensures.way
+
+pub returns-clause-none : goal.returns-clause-none
+returns-clause-none c =
+    let a = (goal.at.returns-clause-none c).After-object_at-id in
+    let b = (goal.at.returns-clause-none c).After-index-value in
+    let i = (goal.at.returns-clause-none c).After-index_objects-indices in
+    if_missing c.find_way.result (λ none opens. none
+    (subst (λ xs. All (λ o. IsSome (text_in (at c.self.inside.heap.graph o))) xs) (sym (indices_is i)) (open_made c.self.inside.heap.graph c.self.inside.stack.items c.self.inside.cells.entries c.index-value.result.now c.object_at-id.result c.args.at c.args.self.now c.self.view_is c.self.invariant (id_is a) (value_is b) c.args.path c.requires.place opens))
+    (subst (LeadsOpen c.self.inside.heap.graph c.index-value.result.now 50 c.object_at-id.result) (sym (indices_is i)) (open_leads c.self.inside.heap.graph c.self.inside.stack.items c.self.inside.cells.entries c.index-value.result.now c.object_at-id.result c.args.at c.args.self.now c.self.view_is c.self.invariant (id_is a) (value_is b) c.args.path c.requires.place opens))) c.find_way.ensures.none
