@@ -16,7 +16,8 @@ use Rattle.tclv_engine.specs.State.{Text, State, state_of}
 use Rattle.tclv_engine.specs.Results.{Res, bind, done, ok, plain}
 use Rattle.tclv_engine.specs.Usages.{call_word}
 use Rattle.tclv_engine.specs.Answers.{Outer, Runs, start, SameState, Raises, Above, KeepsStack, PushesResult, IsCalm, as_result, last_of}
-use Rattle.tclv_engine.specs.DataAnswers.{of_answer, arguments, BecomesError, EndsRefused, HasReply}
+use Rattle.tclv_engine.specs.DataAnswers.{of_answer, arguments}
+use Rattle.tclv_engine.specs.DataSteps.{BecomesError, EndsRefused, HasReply}
 use Rattle.tclv_engine.proofs.Binds.{bind_stop, runs_as, answers_as}
 use Rattle.tclv_engine.proofs.Leaves.{value_runs, raise_runs, raises_as, memory_runs}
 use Rattle.tclv_engine.proofs.StackLemmas.{last-pushed, over_push}

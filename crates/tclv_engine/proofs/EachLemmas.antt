@@ -15,7 +15,8 @@ use Rattle.tclv_engine.specs.State.{Text, State, state_of}
 use Rattle.tclv_engine.specs.Results.{Res, done, bind}
 use Rattle.tclv_engine.specs.Words.{Evaluator}
 use Rattle.tclv_engine.specs.Loops.{Turn, Gave, Skipped, Broke, as_turn, TurnLeaves, more_after, without_result}
-use Rattle.tclv_engine.specs.EachLoops.{Group, turn_count, each_turn, behind, each_turns, kept, result_of}
+use Rattle.tclv_engine.specs.EachLoops.{Group, turn_count, each_turn, behind, each_turns, result_of}
+use Rattle.tclv_engine.specs.EachSteps.{kept}
 use Rattle.tclv_engine.specs.Answers.{Outer, AnswersOver, SameState, Leaves, PushesWords, Keeps, last_of}
 use Rattle.tclv_engine.proofs.Binds.{bind_ok, bind_stop, runs_as}
 use Rattle.tclv_engine.proofs.Leaves.{done_runs, value_runs, from_same}
@@ -104,27 +105,27 @@ turns-none turn n k results st e = sym (ap (λ m. each_turns turn m k results st
 
 module _ {W : Type 0} (turn : ℕ → (State W) → Res W Turn) (keep : Bool) (count : ℕ) (old : (Machine W)) (before : Outer) (faults : ℕ) where
   -- The turns that are left, the results of those that were, and what the loop keeps.
-  pub record Eaching (k : ℕ) (now : (Machine _)) (mid : Outer) (counted : ℕ) : Type 0 where
+  pub record Eaching (k : ℕ) (now : (Machine _)) (mid : Outer) (counted : ℕ) (Fits : Type 0) : Type 0 where
     pub left : ℕ
     pub left_is : left + k ≡ count
     pub results : List Text
-    pub walk : Walk {T = Unit {0}} (kept keep old.values.store.stack) old before faults now mid counted (now.values.store.stack ≡ with_results keep old.values.store.stack results)
+    pub walk : Walk {T = Unit {0}} (kept keep old.values.store.stack) old before faults now mid counted (now.values.store.stack ≡ with_results keep old.values.store.stack results) Fits
         (λ st. each_turns turn count 0 [] st) (λ st. each_turns turn left k results st)
 
-  pub each_starts : Eaching 0 old before faults
-  each_starts = record {
+  pub each_starts : {Fits : Type 0} → Fits → Eaching 0 old before faults Fits
+  each_starts fits = record {
     left = count;
     left_is = omega arith;
     results = [];
-    walk = record { quiet = refl; units_left = omega arith; shape = none-yet keep old.values.store.stack; goes = λ w told r after last k. k w told };
+    walk = record { quiet = refl; units_left = omega arith; shape = none-yet keep old.values.store.stack; fits = fits; goes = λ w told r after last k. k w told };
   }
 
   -- another turn
-  pub each_goes : {now mid new : (Machine W)} {here last : Outer} {k counted next : ℕ} (e : BodyEnd) → Eaching k now here counted → k < count →
+  pub each_goes : {now mid new : (Machine W)} {here last : Outer} {k counted next : ℕ} {Before Fits : Type 0} (e : BodyEnd) → Eaching k now here counted Before → k < count →
       AnswersOver (turn k) as_turn now here (Ok e) mid last → mid.units ≤ now.units → TurnLeaves now.values.store.stack e mid.values.store.stack →
-      SameState mid new → new.values.store.stack ≡ (if keep then mid.values.store.stack else without_result e mid.values.store.stack) → more_after e ≡ true → next ≡ counted →
-      Eaching (k + 1) new last next
-  each_goes {now} {mid} {new} {here} {last} {k} e t some answer fewer leaves same stack follows calm =
+      SameState mid new → new.values.store.stack ≡ (if keep then mid.values.store.stack else without_result e mid.values.store.stack) → more_after e ≡ true → next ≡ counted → Fits →
+      Eaching (k + 1) new last next Fits
+  each_goes {now} {mid} {new} {here} {last} {k} e t some answer fewer leaves same stack follows calm fits =
       let results = results_behind e mid.values.store.stack t.results in
       record {
         left = t.left - 1;
@@ -134,6 +135,7 @@ module _ {W : Type 0} (turn : ℕ → (State W) → Res W Turn) (keep : Bool) (c
           quiet = calm ∙ t.walk.quiet;
           units_left = omega (arith, t.walk.units_left, fewer, same.units);
           shape = one-more keep e old.values.store.stack t.results now.values.store.stack mid.values.store.stack new.values.store.stack t.walk.shape leaves stack;
+          fits = fits;
           goes = λ w told r after end go.
               t.walk.goes w told r after end
               (λ v f. runs_as (turns-more turn t.left k t.results (state_of now v) (omega (arith, t.left_is, some)))
@@ -144,7 +146,7 @@ module _ {W : Type 0} (turn : ℕ → (State W) → Res W Turn) (keep : Bool) (c
       }
 
   -- a turn that breaks the loop
-  pub each_breaks : {now mid new : (Machine W)} {here last : Outer} {k counted : ℕ} (e : BodyEnd) → Eaching k now here counted → k < count →
+  pub each_breaks : {now mid new : (Machine W)} {here last : Outer} {k counted : ℕ} {Fits : Type 0} (e : BodyEnd) → Eaching k now here counted Fits → k < count →
       AnswersOver (turn k) as_turn now here (Ok e) mid last → TurnLeaves now.values.store.stack e mid.values.store.stack →
       SameState mid new → new.values.store.stack ≡ (if keep then mid.values.store.stack else without_result e mid.values.store.stack) → more_after e ≡ false →
       AnswersOver (each_turns turn count 0 []) (kept keep old.values.store.stack) old before (Ok tt) new last
@@ -156,14 +158,14 @@ module _ {W : Type 0} (turn : ℕ → (State W) → Res W Turn) (keep : Bool) (c
       (value_runs mid f2 same (one-more keep e old.values.store.stack t.results now.values.store.stack mid.values.store.stack new.values.store.stack t.walk.shape leaves stack)))))
 
   -- no turn is left
-  pub each_ends : {now : (Machine W)} {here : Outer} {k counted : ℕ} → Eaching k now here counted → count ≤ k →
+  pub each_ends : {now : (Machine W)} {here : Outer} {k counted : ℕ} {Fits : Type 0} → Eaching k now here counted Fits → count ≤ k →
       AnswersOver (each_turns turn count 0 []) (kept keep old.values.store.stack) old before (Ok tt) now here
   each_ends {now} {here} {k} t all w told =
       t.walk.goes w told (Ok tt) now here
       (λ v f. runs_as (turns-none turn t.left k t.results (state_of now v) (omega (arith, t.left_is, all))) (done_runs f refl t.walk.shape))
 
   -- a turn that isn't ok
-  pub each_stops : {now new : (Machine W)} {here last : Outer} {k counted : ℕ} {e : End} → Eaching k now here counted → k < count →
+  pub each_stops : {now new : (Machine W)} {here last : Outer} {k counted : ℕ} {Fits : Type 0} {e : End} → Eaching k now here counted Fits → k < count →
       AnswersOver {T = BodyEnd} (turn k) as_turn now here (Err e) new last →
       AnswersOver {T = Unit {0}} (each_turns turn count 0 []) (kept keep old.values.store.stack) old before (Err e) new last
   each_stops {now} {new} {here} {last} {k} {e = e} t some answer w told =

@@ -35,3 +35,4 @@ pub mod WordLemmas
 pub mod BindLaws
 pub mod InstructionLemmas
 pub mod FitLemmas
+pub mod RunLemmas

@@ -2,7 +2,7 @@
 use Rattle.std.proofs.Common.{◌≡◌, ℕ, ◌+◌, ◌-◌, ◌<◌, ◌≤◌, List, [], ◌∷◌, ◌++◌, length, take, drop, get_or, sym, ap, ◌∙◌, refl, subst, arith, length-append, length-drop, length-take, Result, Ok, Err, Some, None, set, zero, suc, min, ⊎_elim}
 use Rattle.std.specs.Prelude.{IfOk, IfErr, IsOkAnd, option_to_list, slice_get}
 use Rattle.std.specs.Result.{result_unwrap_or}
-use Rattle.std.proofs.lemmas.List.{drop_more, take_more, append_assoc, append-nil, drop-drop, drop_all, take_all, get_or-drop, get_or-take, get_or_default, get_or_append_left, length-set}
+use Rattle.std.proofs.lemmas.List.{drop_more, take_more, append_assoc, append-nil, drop-drop, drop_all, take_all, get_or-drop, get_or-take, get_or_append_left, length-set}
 use Rattle.std.proofs.lemmas.Bool.{cases_lt}
 use Rattle.std.proofs.Math.Seq.{take-append_seam}
 use Rattle.tclv_io.specs.World.{World}
@@ -20,8 +20,9 @@ use Rattle.tclv_engine.specs.declared.machine.Machine.{Machine}
 use Rattle.tclv_engine.specs.State.{Text, State, state_of}
 use Rattle.tclv_engine.specs.Results.{Res, bind, done}
 use Rattle.tclv_engine.specs.Variables.{assign}
-use Rattle.tclv_engine.specs.Answers.{Outer, AtWorld, Start, Runs, start, SameState, Leaves, KeepsStack, returned}
-use Rattle.tclv_engine.specs.DataAnswers.{of_answer, BecomesError}
+use Rattle.tclv_engine.specs.Answers.{Outer, AtWorld, Start, Runs, start, SameState, Leaves, KeepsStack}
+use Rattle.tclv_engine.specs.DataAnswers.{of_answer}
+use Rattle.tclv_engine.specs.DataSteps.{BecomesError}
 use Rattle.tclv_engine.specs.ListAssignment.{listed, IsList, counted, next_of, assign_each, unseen}
 use Rattle.tclv_engine.proofs.Binds.{runs_as, bind_stop, bind-done}
 use Rattle.tclv_engine.proofs.Leaves.{raise_runs, raises_as, value_runs}
@@ -67,12 +68,6 @@ module _ {A T : Type 0} (answer : Answer A) (Shows : A → T → Type 0) (old ne
 
   pub was_read : (t : T) → r ≡ Ok t → replies.IsGiven answer Shows t
   was_read t e = let P : Result T CmdFault → Type 0 = λ x. IfOk x (λ v. replies.IsGiven answer Shows v) in subst P e h.gives
-
--- the elements that were read
-pub read_runs : {W : Type 0} → {here : Outer} (answer : Answer (List Text)) (t : List Text) (before new : (Machine W)) (w : World) → here.told ≡ Some w → SameState before new →
-    replies.IsGiven answer (λ ts x. x ≡ ts) t → Runs (of_answer answer (state_of before w)) returned (start before w here.torn) (Ok t) new here
-read_runs answer t before new w told same h =
-    runs_as (ap (λ a. of_answer a (state_of before w)) (sym h.given)) (value_runs before told same h.shown)
 
 -- ---- the elements of a list by its place
 
@@ -189,6 +184,7 @@ length_between stack from to h l = omega (arith, h, l, length-take (to - from) (
 -- What a loop over names keeps: whatever the rest answers, the whole answers.
 pub record Assigns {W : Type 0} (names values : List Text) (old now : (Machine W)) (count : ℕ) : Type 0 where
   pub stack : now.values.store.stack ≡ old.values.store.stack
+  pub own : now.own ≡ old.own
   pub units_left : now.units ≡ old.units
   pub goes : (here : Outer) → AtWorld here (λ w. (r : Result (Unit {0}) End) (after : (Machine W)) →
       AtWorld here (λ v. Runs (assign_each (drop count names) (drop count values) (state_of now v)) unseen (start now v here.torn) r after here) →
@@ -197,6 +193,7 @@ pub record Assigns {W : Type 0} (names values : List Text) (old now : (Machine W
 pub assigns_begin : {W : Type 0} → (names values : List Text) (old : (Machine W)) (count : ℕ) → count ≡ 0 → Assigns names values old old count
 assigns_begin names values old count e = record {
   stack = refl;
+  own = refl;
   units_left = refl;
   goes = λ here w told r after k. runs_as (ap (λ n. assign_each (drop n names) (drop n values) (state_of old w)) e) (k w told);
 }
@@ -211,10 +208,6 @@ pub kept_grown : (r : Result (Unit {0}) End) (e : End) → r ≡ Err e → (base
 kept_grown r e is base mid now more g h =
     let P : Result (Unit {0}) End → Type 0 = λ x. KeepsStack {T = Unit {0}} base x now in
     subst P (sym is) (grown {S = Unit {0}} {T = Unit {0}} (λ t s. s ≡ base) (λ t s. s ≡ mid) base mid now more e g h)
-
--- an item by its number
-pub item_is : (values : List Text) (i : ℕ) (x : Text) → i < length values → get_or values i x ≡ x → x ≡ get_or values i []
-item_is values i x l e = sym e ∙ get_or_default values i x [] l
 
 -- ---- lists of the rest
 

@@ -235,29 +235,30 @@ turns-step turn (suc n) st h =
 
 module _ {W : Type 0} (turn : (State W) → Res W Bool) (old : (Machine W)) (before : Outer) (faults : ℕ) where
   -- So many turns may come yet, which is more than the units left; and what the loop keeps.
-  pub record Turning (now : (Machine _)) (mid : Outer) (count : ℕ) : Type 0 where
+  pub record Turning (now : (Machine _)) (mid : Outer) (count : ℕ) (Fits : Type 0) : Type 0 where
     pub fuel : ℕ
     pub enough : now.units < fuel
-    pub walk : Walk {T = Unit {0}} returned old before faults now mid count (now.values.store.stack ≡ old.values.store.stack) (λ st. loop turn st) (λ st. turns fuel turn st)
+    pub walk : Walk {T = Unit {0}} returned old before faults now mid count (now.values.store.stack ≡ old.values.store.stack) Fits (λ st. loop turn st) (λ st. turns fuel turn st)
 
-  pub starts : Turning old before faults
-  starts = record {
+  pub starts : {Fits : Type 0} → Fits → Turning old before faults Fits
+  starts fits = record {
     fuel = old.units + 1;
     enough = omega arith;
-    walk = record { quiet = refl; units_left = omega arith; shape = refl; goes = λ w told r after last k. k w told };
+    walk = record { quiet = refl; units_left = omega arith; shape = refl; fits = fits; goes = λ w told r after last k. k w told };
   }
 
   -- another turn
-  pub goes_again : {now new : (Machine W)} {mid last : Outer} {count next : ℕ} (more : Bool) → Turning now mid count →
+  pub goes_again : {now new : (Machine W)} {mid last : Outer} {count next : ℕ} {Before Fits : Type 0} (more : Bool) → Turning now mid count Before →
       AnswersOver turn returned now mid (Ok more) new last → more ≡ true → new.units < now.units →
-      new.values.store.stack ≡ now.values.store.stack → next ≡ count → Turning new last next
-  goes_again {now} {new} {mid} {last} more t answer follows fewer stack calm = record {
+      new.values.store.stack ≡ now.values.store.stack → next ≡ count → Fits → Turning new last next Fits
+  goes_again {now} {new} {mid} {last} more t answer follows fewer stack calm fits = record {
     fuel = t.fuel - 1;
     enough = omega (arith, t.enough, fewer);
     walk = record {
       quiet = calm ∙ t.walk.quiet;
       units_left = omega (arith, t.walk.units_left, fewer);
       shape = stack ∙ t.walk.shape;
+      fits = fits;
       goes = λ w told r after end k.
           t.walk.goes w told r after end
           (λ v e. runs_as (turns-step turn t.fuel (state_of now v) (omega (arith, t.enough)))
@@ -267,7 +268,7 @@ module _ {W : Type 0} (turn : (State W) → Res W Bool) (old : (Machine W)) (bef
   }
 
   -- the last turn
-  pub ends_there : {now new : (Machine W)} {mid last : Outer} {count : ℕ} (more : Bool) → Turning now mid count →
+  pub ends_there : {now new : (Machine W)} {mid last : Outer} {count : ℕ} {Fits : Type 0} (more : Bool) → Turning now mid count Fits →
       AnswersOver turn returned now mid (Ok more) new last → more ≡ false →
       AnswersOver (loop turn) returned old before (Ok tt) new last
   ends_there {now} {new} {mid} {last} more t answer last_one w told =
@@ -277,7 +278,7 @@ module _ {W : Type 0} (turn : (State W) → Res W Bool) (old : (Machine W)) (bef
       (λ b v2 e2 shown. runs_as (ap (λ x. if x then turns (t.fuel - 1) turn (state_of new v2) else done tt (state_of new v2)) (sym last_one ∙ shown)) (done_runs e2 refl refl))))
 
   -- a turn that isn't ok
-  pub stops_there : {now new : (Machine W)} {mid last : Outer} {count : ℕ} {e : End} → Turning now mid count →
+  pub stops_there : {now new : (Machine W)} {mid last : Outer} {count : ℕ} {Fits : Type 0} {e : End} → Turning now mid count Fits →
       AnswersOver turn returned now mid (Err e) new last →
       AnswersOver {T = Unit {0}} (loop turn) returned old before (Err e) new last
   stops_there {now} {new} {mid} {last} {e = e} t answer w told =

@@ -1,5 +1,5 @@
 -- Loops over lists: in each turn some variables get the next values of their lists.
-use Rattle.std.specs.Prelude.{◌≡◌, ℕ, zero, suc, ◌+◌, ◌-◌, ◌*◌, ◌/◌, ◌==◌, Bool, true, false, if◌then◌else◌, max, List, [], ◌∷◌, ◌++◌, length, drop}
+use Rattle.std.specs.Prelude.{ℕ, zero, suc, ◌+◌, ◌-◌, ◌*◌, ◌/◌, ◌==◌, Bool, true, false, if◌then◌else◌, max, List, [], ◌∷◌, ◌++◌, length, drop}
 use Rattle.tclv_text.specs.Quotes.{list_text}
 use Rattle.tclv_parse.specs.declared.tree.Script.{Script}
 use Rattle.tclv_parse.specs.Grammar.{commands}
@@ -71,12 +71,6 @@ each_turns turn (suc n) k results st = bind (turn k st) (λ t s1. behind t (each
 -- All turns of groups. The result is made of those of the bodies.
 abbrev pub each_of : {W : Type 0} → (List Text → Text) → (Evaluator W) → Text → List Group → (State W) → Res W Outcome
 each_of result ev script groups st = bind (each_turns (each_turn ev (commands script) groups) (turn_count groups) 0 [] st) (λ results s1. ok (result results) s1)
-
--- ---- in the code
-
--- the results are kept on the stack, or not
-abbrev pub kept : Bool → List Text → List Text → Unit {0} → List Text → Type 0
-kept keep base results t stack = stack ≡ (if keep then base ++ results else base)
 
 -- the result of the command, by whether results are kept
 abbrev pub result_of : Bool → List Text → Text

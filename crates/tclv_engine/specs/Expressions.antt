@@ -1,7 +1,5 @@
 -- The value of an expression.
-use Rattle.std.specs.Prelude.{◌≡◌, ℕ, zero, suc, Bool, true, false, List, [], ◌∷◌, ◌++◌, Result, Ok, Err, ℤ}
-use Rattle.std.specs.declared.rc.Rc.{Rc}
-use Rattle.std.specs.Rc.{rc_value}
+use Rattle.std.specs.Prelude.{ℕ, zero, suc, Bool, true, false, List, [], ◌∷◌, ◌++◌, Result, Ok, Err, ℤ}
 use Rattle.tclv_text.specs.declared.numbers.WholeFault.{WholeFault}
 use Rattle.tclv_text.specs.declared.numbers.WholeFault.TheVariants.{NotWhole, TooLarge, FloatForm}
 use Rattle.tclv_text.specs.Numbers.{whole, whole_text}
@@ -122,7 +120,3 @@ evaluated ev text st = bind (parsed text st) (result ev)
 
 abbrev pub condition : {W : Type 0} → (Evaluator W) → Text → (State W) → Res W Bool
 condition ev text st = bind (parsed text st) (test ev)
-
--- the call returns the tree, shared
-abbrev pub shared : {Z : Type 0} → ExprTree → Rc ExprTree Z → List Text → Type 0
-shared e rc stack = rc_value rc ≡ e

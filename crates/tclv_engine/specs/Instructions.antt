@@ -1,6 +1,10 @@
 -- How the code gets to the value of an expression: the instructions of its tree, run over a stack. The meaning is `value`; a lemma says that
 -- these give it.
-use Rattle.std.specs.Prelude.{◌≡◌, ℕ, zero, suc, ◌+◌, ◌-◌, ◌≤◌, Bool, true, false, List, [], ◌∷◌, ◌++◌}
+use Rattle.std.specs.Prelude.{◌≡◌, ℕ, zero, suc, ◌+◌, ◌-◌, ◌≤◌, Bool, true, false, if◌then◌else◌, List, [], ◌∷◌, ◌++◌, length, Option, Some, None}
+use Rattle.std.specs.declared.rc.Rc.{Rc}
+use Rattle.std.specs.Rc.{rc_value}
+use Rattle.tclv_parse.specs.declared.tree.Script.{Script}
+use Rattle.tclv_parse.specs.Grammar.{commands}
 use Rattle.tclv_exprp.specs.declared.tree.ExprTree.{ExprTree}
 use Rattle.tclv_exprp.specs.Flat.{flat}
 use Rattle.tclv_exprp.specs.declared.instructions.Operation.{Operation}
@@ -15,7 +19,8 @@ use Rattle.tclv_engine.specs.Results.{Res, bind, done, raise}
 use Rattle.tclv_engine.specs.Words.{Evaluator, substitution}
 use Rattle.tclv_engine.specs.Operations.{second_of, truth_of, truth_number, unary, between, words_between}
 use Rattle.tclv_engine.specs.Functions.{call}
-use Rattle.tclv_engine.specs.Expressions.{value, max_tree}
+use Rattle.tclv_engine.specs.Expressions.{value, max_tree, settled}
+use Rattle.tclv_engine.specs.Loops.{paid_body, between_turns}
 use Rattle.tclv_engine.specs.Answers.{last_of, Over}
 
 -- ---- operations
@@ -114,6 +119,36 @@ Fits (act.Operate op ∷ is) zero height = (takes op ≤ height) × Fits is 0 (s
 Fits (act.SkipIf wanted n ∷ is) zero height = (1 ≤ height) × (Fits is 0 height × Fits is n height)
 Fits (act.Skip n ∷ is) zero height = Fits is n height
 Fits (act.Forget ∷ is) zero height = (1 ≤ height) × Fits is 0 (height - 1)
+
+-- ---- results, tests and turns of loops over instructions
+
+-- what an expression gives, by its instructions
+abbrev pub run_result : {W : Type 0} → (Evaluator W) → List Instruction → (State W) → Res W Text
+run_result ev is st = bind (run ev is 0 [] st) settled
+
+abbrev pub run_test : {W : Type 0} → (Evaluator W) → List Instruction → (State W) → Res W Bool
+run_test ev is st = bind (run_result ev is st) truth_of
+
+-- What comes between two turns, if anything does. Whether the loop goes on.
+abbrev pub run_between : {W Z : Type 0} → (Evaluator W) → Option (Rc Script Z) → (State W) → Res W Bool
+run_between ev None st = done true st
+run_between ev (Some script) st = between_turns ev (rc_value script) st
+
+-- a turn of a loop whose test has these instructions
+abbrev pub run_turn : {W Z : Type 0} → (Evaluator W) → List Instruction → Option (Rc Script Z) → Script → (State W) → Res W Bool
+run_turn ev is next body st =
+    bind (run_test ev is st) (λ more s1. if more then bind (paid_body ev body s1) (λ on s2. if on then run_between ev next s2 else done false s2) else done false s1)
+
+-- the script of a place, shared, where there is a place
+abbrev pub IsBetween : {Z : Type 0} → (ℕ → Text) → Option ℕ → Option (Rc Script Z) → Type 0
+IsBetween placed None None = Unit {0}
+IsBetween placed None (Some found) = ⊥
+IsBetween placed (Some at) None = ⊥
+IsBetween placed (Some at) (Some found) = rc_value found ≡ commands (placed at)
+
+-- the call returns the instructions of the tree, shared
+abbrev pub shared : {Z : Type 0} → ExprTree → Rc (List Instruction) Z → List Text → Type 0
+shared e rc stack = rc_value rc ≡ flat e
 
 -- ---- laws
 

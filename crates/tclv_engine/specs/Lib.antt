@@ -9,6 +9,7 @@ pub mod Names
 pub mod Variables
 pub mod WholeNumbers
 pub mod DataAnswers
+pub mod DataSteps
 pub mod Words
 pub mod ListAssignment
 pub mod Loops
@@ -18,6 +19,7 @@ pub mod Functions
 pub mod Expressions
 pub mod TestedLoops
 pub mod EachLoops
+pub mod EachSteps
 pub mod Plans
 pub mod Evaluation
 pub mod Bounds

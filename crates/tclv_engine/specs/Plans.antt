@@ -19,7 +19,9 @@ use Rattle.tclv_engine.specs.declared.plans.Way.TheVariants as way
 use Rattle.tclv_engine.specs.State.{Text}
 use Rattle.tclv_engine.specs.Results.{Outcome, carried}
 use Rattle.tclv_engine.specs.Answers.{Above, Keeps, code_of, options_of, last_of}
+use Rattle.tclv_engine.specs.declared.each_groups.Group.{Group as PlacedGroup}
 use Rattle.tclv_engine.specs.EachLoops.{Group}
+use Rattle.tclv_engine.specs.EachSteps.{GroupInside, groups_at}
 
 -- ---- what is wanted
 
@@ -80,7 +82,7 @@ wanted_of (plan.Value at) stack = Value (placed stack at)
 wanted_of (plan.Choice branches) stack = Choice (alternatives_of stack branches.items.items) (lead_of stack branches.last)
 wanted_of (plan.Tested test body) stack = Tested (placed stack test) (placed stack body)
 wanted_of (plan.Started start test next body) stack = Started (placed stack start) (placed stack test) (placed stack next) (placed stack body)
-wanted_of (plan.Each groups body keep) stack = Each groups (placed stack body) keep
+wanted_of (plan.Each groups body keep) stack = Each (groups_at stack groups.items.items) (placed stack body) keep
 
 -- the call returns a plan that wants this
 abbrev pub as_plan : {K : Type 0} → Wanted K → Plan K → List Text → Type 0
@@ -122,6 +124,10 @@ pub record StartedInside (stack : List Text) (start test next body : ℕ) : Type
   pub next_in : next < length stack
   pub body_in : body < length stack
 
+pub record EachInside (stack : List Text) (groups : List PlacedGroup) (body : ℕ) : Type 0 where
+  pub groups_in : All (GroupInside stack) groups
+  pub body_in : body < length stack
+
 -- The texts of a plan stand on the stack, which keeps its base; over the base lies the result of one that is finished.
 abbrev pub PlanOver : {K : Type 0} → List Text → Plan K → List Text → Type 0
 PlanOver base (plan.Finished kept) stack = Above base stack
@@ -130,4 +136,4 @@ PlanOver base (plan.Value at) stack = Keeps base stack × (at < length stack)
 PlanOver base (plan.Choice branches) stack = Keeps base stack × BranchesInside stack branches
 PlanOver base (plan.Tested test body) stack = Keeps base stack × ((test < length stack) × (body < length stack))
 PlanOver base (plan.Started start test next body) stack = Keeps base stack × StartedInside stack start test next body
-PlanOver base (plan.Each groups body keep) stack = Keeps base stack × (body < length stack)
+PlanOver base (plan.Each groups body keep) stack = Keeps base stack × EachInside stack groups.items.items body

@@ -61,18 +61,18 @@ code_options number = option (codes "-code") number ∷ option (codes "-level") 
 abbrev pub plain_options : List Pair
 plain_options = code_options (codes "0")
 
--- the number of a code
-abbrev pub code_number : Code → Text
-code_number code.Ok = codes "0"
-code_number code.Error = codes "1"
-code_number code.Return = codes "2"
-code_number code.Break = codes "3"
-code_number code.Continue = codes "4"
-code_number (code.Other n) = whole_text n
+-- the number of a code, as a text
+abbrev pub code_text : Code → Text
+code_text code.Ok = codes "0"
+code_text code.Error = codes "1"
+code_text code.Return = codes "2"
+code_text code.Break = codes "3"
+code_text code.Continue = codes "4"
+code_text (code.Other n) = whole_text n
 
 -- the options that an outcome with a code carries: its own, or none but code and level
 abbrev pub carried : Code → Carried → List Pair
-carried c Plain = code_options (code_number c)
+carried c Plain = code_options (code_text c)
 carried c (Kept options) = options
 
 -- the options of an error

@@ -1,5 +1,5 @@
 -- Loops that go on as long as a test is true.
-use Rattle.std.specs.Prelude.{Bool, false, if◌then◌else◌, []}
+use Rattle.std.specs.Prelude.{ℕ, Option, Some, None, Bool, false, if◌then◌else◌, []}
 use Rattle.tclv_parse.specs.declared.tree.Script.{Script}
 use Rattle.tclv_parse.specs.Grammar.{commands}
 use Rattle.tclv_exprp.specs.declared.tree.ExprTree.{ExprTree}
@@ -36,3 +36,13 @@ begins ev start st = bind (ev.script (commands start) st) (λ o s1. done tt s1)
 
 abbrev pub started_loop : {W : Type 0} → (Evaluator W) → Text → Text → Text → Text → (State W) → Res W Outcome
 started_loop ev start condition next body st = bind (begins ev start st) (λ u s1. stepped_loop ev condition next body s1)
+
+-- ---- either
+
+-- The turns of a loop whose body, and script between turns if it has one, stand at places.
+abbrev pub turned : {W : Type 0} → (Evaluator W) → (ℕ → Text) → Option ℕ → ℕ → ExprTree → (State W) → Res W Outcome
+turned ev placed None body tree st = bind (loop (tested_turn ev tree (commands (placed body))) st) (λ u s1. ok [] s1)
+turned ev placed (Some next) body tree st = bind (loop (stepped_turn ev tree (commands (placed next)) (commands (placed body))) st) (λ u s1. ok [] s1)
+
+abbrev pub repeated : {W : Type 0} → (Evaluator W) → (ℕ → Text) → ℕ → Option ℕ → ℕ → (State W) → Res W Outcome
+repeated ev placed test next body st = bind (parsed (placed test) st) (λ tree s1. turned ev placed next body tree s1)

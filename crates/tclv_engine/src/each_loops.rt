@@ -1,5 +1,6 @@
 // Loops over lists.
-ghost use Rattle.std.specs.Prelude.{◌≡◌, ◌<◌, ◌≤◌, [], length, Err, if◌then◌else◌};
+ghost use Rattle.std.specs.Prelude.{◌≡◌, ◌<◌, ◌≤◌, [], length, Err, if◌then◌else◌, true};
+ghost use Rattle.std.specs.List.{All};
 ghost use Rattle.tclv_value.specs.View.{HasPlace, text_at};
 ghost use Rattle.tclv_value.specs.Stacks.{top, under};
 ghost use Rattle.tclv_model.specs.Message.{text_of};
@@ -8,9 +9,10 @@ ghost use Rattle.tclv_engine.specs.Evaluation as spec;
 ghost use Rattle.tclv_engine.specs.Evaluation.{whole};
 ghost use Rattle.tclv_engine.specs.Loops as loops;
 ghost use Rattle.tclv_engine.specs.EachLoops as rows;
+ghost use Rattle.tclv_engine.specs.EachSteps as steps;
 ghost use Rattle.tclv_engine.specs.Answers.{AnswersOver, Leaves, KeepsStack, PushesOne, PushesWords, PushesResult, Raises, Caused, SameState, as_outcome, outer};
 
-use crate::each_groups::{Group, turn_count};
+use crate::each_groups::Group;
 use crate::endings::{Carried, End};
 use crate::host::Host;
 use crate::loops::BodyEnd;
@@ -31,12 +33,16 @@ impl<W> Machine<W> {
         out: &mut O,
         script: &Script,
         groups: &[Group],
-        turn: usize,
+        turn: u64,
     ) -> Result<BodyEnd, End>
-        ensures answer { AnswersOver (rows.each_turn (whole H.given) script.now groups.now turn) loops.as_turn self.old (outer (O.told out.old) (O.torn out.old)) result self.new (outer (O.told out.new) (O.torn out.new)) }
+        requires groups { All (steps.GroupInside self.old.values.store.stack) groups.now }
+        requires fits { H.fits self.old.own (O.told out.old) ≡ true }
+        ensures answer { let groups = steps.groups_at self.old.values.store.stack groups.now in
+            AnswersOver (rows.each_turn (whole H.given) script.now groups turn) loops.as_turn self.old (outer (O.told out.old) (O.torn out.old)) result self.new (outer (O.told out.new) (O.torn out.new)) }
         ensures stack { Leaves (loops.TurnLeaves self.old.values.store.stack) self.old.values.store.stack result self.new.values.store.stack }
         ensures cause { Caused (O.faults out.old) (O.faults out.new) result }
         ensures units { self.new.units ≤ self.old.units }
+        ensures fits { H.fits self.new.own (O.told out.new) ≡ true }
     {
         self.take_unit()?;
         self.assign_groups(groups, turn)?;
@@ -68,13 +74,17 @@ impl<W> Machine<W> {
         out: &mut O,
         script: &Script,
         groups: &[Group],
-        count: usize,
+        count: u64,
         keep: bool,
     ) -> Result<(), End>
-        ensures answer { AnswersOver (rows.each_turns (rows.each_turn (whole H.given) script.now groups.now) count 0 []) (rows.kept keep self.old.values.store.stack) self.old (outer (O.told out.old) (O.torn out.old)) result self.new (outer (O.told out.new) (O.torn out.new)) }
+        requires groups { All (steps.GroupInside self.old.values.store.stack) groups.now }
+        requires fits { H.fits self.old.own (O.told out.old) ≡ true }
+        ensures answer { let base = self.old.values.store.stack in
+            AnswersOver (rows.each_turns (rows.each_turn (whole H.given) script.now (steps.groups_at base groups.now)) count 0 []) (steps.kept keep base) self.old (outer (O.told out.old) (O.torn out.old)) result self.new (outer (O.told out.new) (O.torn out.new)) }
         ensures stack { PushesWords self.old.values.store.stack result self.new.values.store.stack }
         ensures cause { Caused (O.faults out.old) (O.faults out.new) result }
         ensures units { self.new.units ≤ self.old.units }
+        ensures fits { H.fits self.new.own (O.told out.new) ≡ true }
     {
         for turn in 0..count {
             let ended = self.each_turn(host, out, script, groups, turn)?;
@@ -87,8 +97,8 @@ impl<W> Machine<W> {
 
     // ---- all turns
 
-    /// Takes all turns of groups, with the body at a place of the stack, and pushes the list of the
-    /// results that were kept.
+    /// Takes all turns of groups, whose words stand on the stack as the body does, and pushes the list
+    /// of the results that were kept.
     #[cycle(eval)]
     pub fn each_of<H: Host<Own = W>, O: Outside>(
         &mut self,
@@ -98,15 +108,19 @@ impl<W> Machine<W> {
         body: usize,
         keep: bool,
     ) -> Result<Carried, End>
-        requires { body < length self.old.values.store.stack }
-        ensures answer { AnswersOver (rows.each_of (rows.result_of keep) (whole H.given) (text_at self.old.values.store (At.Stack body)) groups.now) as_outcome self.old (outer (O.told out.old) (O.torn out.old)) result self.new (outer (O.told out.new) (O.torn out.new)) }
+        requires body { body < length self.old.values.store.stack }
+        requires groups { All (steps.GroupInside self.old.values.store.stack) groups.now }
+        requires fits { H.fits self.old.own (O.told out.old) ≡ true }
+        ensures answer { let groups = steps.groups_at self.old.values.store.stack groups.now in
+            AnswersOver (rows.each_of (rows.result_of keep) (whole H.given) (text_at self.old.values.store (At.Stack body)) groups) as_outcome self.old (outer (O.told out.old) (O.torn out.old)) result self.new (outer (O.told out.new) (O.torn out.new)) }
         ensures stack { PushesOne self.old.values.store.stack result self.new.values.store.stack }
         ensures cause { Caused (O.faults out.old) (O.faults out.new) result }
         ensures units { self.new.units ≤ self.old.units }
+        ensures fits { H.fits self.new.own (O.told out.new) ≡ true }
     {
         let height = self.values.height();
         let script = self.values.script(At::Stack(body))?;
-        let count = turn_count(groups);
+        let count = self.turn_count(groups);
         self.each_turns(host, out, &script, groups, count, keep)?;
         let results = self.values.height() - height;
         self.values.push_list(results)?;

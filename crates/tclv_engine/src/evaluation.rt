@@ -1,5 +1,5 @@
 // The evaluation of scripts.
-ghost use Rattle.std.specs.Prelude.{◌≡◌, ◌≤◌, ◌<◌, [], ℕ, length};
+ghost use Rattle.std.specs.Prelude.{◌≡◌, ◌≤◌, ◌<◌, [], ℕ, length, true};
 ghost use Rattle.tclv_engine.specs.Results.{plain};
 ghost use Rattle.tclv_engine.specs.Words as meaning;
 ghost use Rattle.tclv_engine.specs.Evaluation as spec;
@@ -36,10 +36,12 @@ impl<W> Machine<W> {
         out: &mut O,
         script: &Script,
     ) -> Result<Carried, End>
+        requires fits { H.fits self.old.own (O.told out.old) ≡ true }
         ensures answer { AnswersOver ((whole H.given).script script.now) as_outcome self.old (outer (O.told out.old) (O.torn out.old)) result self.new (outer (O.told out.new) (O.torn out.new)) }
         ensures stack { PushesOne self.old.values.store.stack result self.new.values.store.stack }
         ensures cause { Caused (O.faults out.old) (O.faults out.new) result }
         ensures units { self.new.units ≤ self.old.units }
+        ensures fits { H.fits self.new.own (O.told out.new) ≡ true }
     {
         if self.depth >= MAX_DEPTH {
             return Err(self.raise(
@@ -65,10 +67,12 @@ impl<W> Machine<W> {
         commands: &Items<Command>,
         fault: Option<ParseFault>,
     ) -> Result<Carried, End>
+        requires fits { H.fits self.old.own (O.told out.old) ≡ true }
         ensures answer { AnswersOver (spec.sequence H.given (whole H.given) (plain []) commands.now fault) as_outcome self.old (outer (O.told out.old) (O.torn out.old)) result self.new (outer (O.told out.new) (O.torn out.new)) }
         ensures stack { PushesOne self.old.values.store.stack result self.new.values.store.stack }
         ensures cause { Caused (O.faults out.old) (O.faults out.new) result }
         ensures units { self.new.units ≤ self.old.units }
+        ensures fits { H.fits self.new.own (O.told out.new) ≡ true }
     {
         self.push_text(b"")?;
         let mut last = Carried::Plain;
@@ -87,11 +91,13 @@ impl<W> Machine<W> {
         out: &mut O,
         at: At,
     ) -> Result<Carried, End>
-        requires { HasPlace self.old.values.store at }
+        requires place { HasPlace self.old.values.store at }
+        requires fits { H.fits self.old.own (O.told out.old) ≡ true }
         ensures answer { AnswersOver (spec.text (whole H.given) (text_at self.old.values.store at)) as_outcome self.old (outer (O.told out.old) (O.torn out.old)) result self.new (outer (O.told out.new) (O.torn out.new)) }
         ensures stack { PushesOne self.old.values.store.stack result self.new.values.store.stack }
         ensures cause { Caused (O.faults out.old) (O.faults out.new) result }
         ensures units { self.new.units ≤ self.old.units }
+        ensures fits { H.fits self.new.own (O.told out.new) ≡ true }
     {
         let tree = self.values.script(at)?;
         self.script(host, out, &tree)
@@ -105,10 +111,12 @@ impl<W> Machine<W> {
         out: &mut O,
         command: &Command,
     ) -> Result<Carried, End>
+        requires fits { H.fits self.old.own (O.told out.old) ≡ true }
         ensures answer { AnswersOver (spec.command H.given (whole H.given) command.now) as_outcome self.old (outer (O.told out.old) (O.torn out.old)) result self.new (outer (O.told out.new) (O.torn out.new)) }
         ensures stack { PushesOne self.old.values.store.stack result self.new.values.store.stack }
         ensures cause { Caused (O.faults out.old) (O.faults out.new) result }
         ensures units { self.new.units ≤ self.old.units }
+        ensures fits { H.fits self.new.own (O.told out.new) ≡ true }
     {
         let height = self.values.height();
         self.take_unit()?;
@@ -127,11 +135,13 @@ impl<W> Machine<W> {
         out: &mut O,
         n: usize,
     ) -> Result<Carried, End>
-        requires { n ≤ length self.old.values.store.stack }
+        requires words { n ≤ length self.old.values.store.stack }
+        requires fits { H.fits self.old.own (O.told out.old) ≡ true }
         ensures answer { AnswersOver (spec.call H.given (whole H.given) (top n self.old.values.store.stack)) as_outcome self.old (outer (O.told out.old) (O.torn out.old)) result self.new (outer (O.told out.new) (O.torn out.new)) }
         ensures stack { PushesResult (under n self.old.values.store.stack) result self.new.values.store.stack }
         ensures cause { Caused (O.faults out.old) (O.faults out.new) result }
         ensures units { self.new.units ≤ self.old.units }
+        ensures fits { H.fits self.new.own (O.told out.new) ≡ true }
     {
         if n == 0 {
             self.push_text(b"")?;
@@ -150,10 +160,12 @@ impl<W> Machine<W> {
         out: &mut O,
         words: &Items<Word>,
     ) -> Result<(), End>
+        requires fits { H.fits self.old.own (O.told out.old) ≡ true }
         ensures answer { AnswersOver (meaning.words (whole H.given) [] words.now) (stacked self.old.values.store.stack) self.old (outer (O.told out.old) (O.torn out.old)) result self.new (outer (O.told out.new) (O.torn out.new)) }
         ensures stack { PushesWords self.old.values.store.stack result self.new.values.store.stack }
         ensures cause { Caused (O.faults out.old) (O.faults out.new) result }
         ensures units { self.new.units ≤ self.old.units }
+        ensures fits { H.fits self.new.own (O.told out.new) ≡ true }
     {
         for word in words.as_slice() {
             self.word(host, out, word)?;
@@ -169,10 +181,12 @@ impl<W> Machine<W> {
         out: &mut O,
         word: &Word,
     ) -> Result<(), End>
+        requires fits { H.fits self.old.own (O.told out.old) ≡ true }
         ensures answer { AnswersOver (meaning.word (whole H.given) word.now) (stacked self.old.values.store.stack) self.old (outer (O.told out.old) (O.torn out.old)) result self.new (outer (O.told out.new) (O.torn out.new)) }
         ensures stack { PushesWords self.old.values.store.stack result self.new.values.store.stack }
         ensures cause { Caused (O.faults out.old) (O.faults out.new) result }
         ensures units { self.new.units ≤ self.old.units }
+        ensures fits { H.fits self.new.own (O.told out.new) ≡ true }
     {
         self.substitute(host, out, &word.parts, MAX_LEVELS)?;
         if word.expand {
@@ -190,31 +204,16 @@ impl<W> Machine<W> {
         parts: &Items<Part>,
         levels: u8,
     ) -> Result<(), End>
+        requires fits { H.fits self.old.own (O.told out.old) ≡ true }
         ensures answer { AnswersOver (meaning.joined (meaning.part_value levels (whole H.given)) [] parts.now) on_top self.old (outer (O.told out.old) (O.torn out.old)) result self.new (outer (O.told out.new) (O.torn out.new)) }
         ensures stack { PushesOne self.old.values.store.stack result self.new.values.store.stack }
         ensures cause { Caused (O.faults out.old) (O.faults out.new) result }
         ensures units { self.new.units ≤ self.old.units }
+        ensures fits { H.fits self.new.own (O.told out.new) ≡ true }
     {
-        match parts.as_slice() {
-            [part] => self.part(host, out, part, levels),
-            _ => self.join(host, out, parts, levels),
+        if let [only] = parts.as_slice() {
+            return self.part(host, out, only, levels);
         }
-    }
-
-    /// Pushes the values of parts, joined.
-    #[cycle(eval)]
-    fn join<H: Host<Own = W>, O: Outside>(
-        &mut self,
-        host: &H,
-        out: &mut O,
-        parts: &Items<Part>,
-        levels: u8,
-    ) -> Result<(), End>
-        ensures answer { AnswersOver (meaning.joined (meaning.part_value levels (whole H.given)) [] parts.now) on_top self.old (outer (O.told out.old) (O.torn out.old)) result self.new (outer (O.told out.new) (O.torn out.new)) }
-        ensures stack { PushesOne self.old.values.store.stack result self.new.values.store.stack }
-        ensures cause { Caused (O.faults out.old) (O.faults out.new) result }
-        ensures units { self.new.units ≤ self.old.units }
-    {
         let mut text = Text::new(Vec::new(self.alloc));
         for part in parts.as_slice() {
             self.part(host, out, part, levels)?;
@@ -232,34 +231,22 @@ impl<W> Machine<W> {
         part: &Part,
         levels: u8,
     ) -> Result<(), End>
+        requires fits { H.fits self.old.own (O.told out.old) ≡ true }
         ensures answer { AnswersOver (meaning.part_value levels (whole H.given) part.now) on_top self.old (outer (O.told out.old) (O.torn out.old)) result self.new (outer (O.told out.new) (O.torn out.new)) }
         ensures stack { PushesOne self.old.values.store.stack result self.new.values.store.stack }
         ensures cause { Caused (O.faults out.old) (O.faults out.new) result }
         ensures units { self.new.units ≤ self.old.units }
+        ensures fits { H.fits self.new.own (O.told out.new) ≡ true }
     {
         match part {
             Part::Literal(text) => self.push_text(text.bytes()),
             Part::Variable(name) => self.push_variable(name.bytes()),
             Part::Element(_, index) => self.element(host, out, index, levels),
-            Part::Script(script) => self.bracketed(host, out, script.get()),
+            Part::Script(script) => {
+                self.script(host, out, script.get())?;
+                Ok(())
+            }
         }
-    }
-
-    /// Pushes the result of a script in brackets.
-    #[cycle(eval)]
-    fn bracketed<H: Host<Own = W>, O: Outside>(
-        &mut self,
-        host: &H,
-        out: &mut O,
-        script: &Script,
-    ) -> Result<(), End>
-        ensures answer { AnswersOver (meaning.bracketed (whole H.given) script.now) on_top self.old (outer (O.told out.old) (O.torn out.old)) result self.new (outer (O.told out.new) (O.torn out.new)) }
-        ensures stack { PushesOne self.old.values.store.stack result self.new.values.store.stack }
-        ensures cause { Caused (O.faults out.old) (O.faults out.new) result }
-        ensures units { self.new.units ≤ self.old.units }
-    {
-        self.script(host, out, script)?;
-        Ok(())
     }
 
     /// The element of an index, which isn't built yet.
@@ -271,10 +258,12 @@ impl<W> Machine<W> {
         index: &Items<Part>,
         levels: u8,
     ) -> Result<(), End>
+        requires fits { H.fits self.old.own (O.told out.old) ≡ true }
         ensures answer { AnswersOver (meaning.element levels (whole H.given) index.now) on_top self.old (outer (O.told out.old) (O.torn out.old)) result self.new (outer (O.told out.new) (O.torn out.new)) }
         ensures stack { PushesOne self.old.values.store.stack result self.new.values.store.stack }
         ensures cause { Caused (O.faults out.old) (O.faults out.new) result }
         ensures units { self.new.units ≤ self.old.units }
+        ensures fits { H.fits self.new.own (O.told out.new) ≡ true }
     {
         if levels == 0 {
             return Err(self.raise(

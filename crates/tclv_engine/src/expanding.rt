@@ -21,6 +21,7 @@ impl<W> Machine<W> {
         ensures stack { PushesWords (under 1 self.old.values.store.stack) result self.new.values.store.stack }
         ensures calm { IsCalm result }
         ensures units { self.new.units ≤ self.old.units }
+        ensures own { self.new.own ≡ self.old.own }
     {
         let list = self.values.height() - 1;
         let len = self.list_len(At::Stack(list))?;

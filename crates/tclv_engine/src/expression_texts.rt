@@ -1,5 +1,5 @@
 // Texts that are expressions, and the errors of those that are none.
-ghost use Rattle.std.specs.Prelude.{◌≡◌, ◌≤◌, ◌<◌, [], length, take, drop, nat_lt, Err};
+ghost use Rattle.std.specs.Prelude.{◌≡◌, ◌≤◌, ◌<◌, [], length, take, drop, nat_lt, Err, IfOk};
 ghost use Rattle.std.specs.List.{prefix_len};
 ghost use Rattle.std.specs.Str.{chars};
 ghost use Rattle.tclv_text.specs.Texts.{IsText};
@@ -9,12 +9,14 @@ ghost use Rattle.tclv_model.specs.ErrorCodes.{error_code};
 ghost use Rattle.tclv_engine.specs.Answers.{Answers, IsCalm, KeepsStack, Raises, SameState};
 ghost use Rattle.tclv_engine.specs.ExpressionFaults as faults;
 ghost use Rattle.tclv_engine.specs.Expressions as spec;
+ghost use Rattle.tclv_engine.specs.Instructions.{Fits, shared};
 
 use crate::endings::End;
 use crate::machine::Machine;
 use crate::raising::error_texts;
+use sqlite_items::Items;
 use std::rc::Rc;
-use tclv_exprp::{ExprFault, ExprTree};
+use tclv_exprp::{ExprFault, Instruction};
 use tclv_model::{ErrorCode, MessageId};
 use tclv_value::At;
 
@@ -129,16 +131,18 @@ impl<W> Machine<W> {
         }
     }
 
-    /// The expression that the text of a place is, or the error that it is none.
-    pub fn parsed(&mut self, at: At) -> Result<Rc<ExprTree>, End>
+    /// The instructions of the expression that the text of a place is, or the error that it is none.
+    pub fn parsed(&mut self, at: At) -> Result<Rc<Items<Instruction>>, End>
         requires { HasPlace self.old.values.store at }
-        ensures answer { Answers (spec.parsed (text_at self.old.values.store at)) spec.shared self.old result self.new }
+        ensures answer { Answers (spec.parsed (text_at self.old.values.store at)) shared self.old result self.new }
+        ensures fits { IfOk result (λ found. Fits found.value 0 0) }
         ensures stack { KeepsStack self.old.values.store.stack result self.new.values.store.stack }
         ensures calm { IsCalm result }
         ensures units { self.new.units ≤ self.old.units }
+        ensures own { self.new.own ≡ self.old.own }
     {
         match self.values.expr(at) {
-            Ok(tree) => Ok(tree),
+            Ok(found) => Ok(found),
             Err(why) => Err(self.refuse_expression(at, why)),
         }
     }

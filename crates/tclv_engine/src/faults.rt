@@ -34,6 +34,7 @@ impl<W> Machine<W> {
         ensures stack { KeepsStack self.old.values.store.stack result self.new.values.store.stack }
         ensures calm { IsCalm result }
         ensures units { self.new.units ≤ self.old.units }
+        ensures own { self.new.own ≡ self.old.own }
     {
         match fault {
             None => Ok(last),

@@ -80,6 +80,7 @@ impl<W> Machine<W> {
         ensures stack { PushesOne (under n self.old.values.store.stack) result self.new.values.store.stack }
         ensures calm { IsCalm result }
         ensures units { self.new.units ≤ self.old.units }
+        ensures own { self.new.own ≡ self.old.own }
     {
         match function_of(name) {
             Some(function) => self.apply_function(function, name, n),
@@ -110,6 +111,7 @@ impl<W> Machine<W> {
         ensures stack { PushesOne (under n self.old.values.store.stack) result self.new.values.store.stack }
         ensures calm { IsCalm result }
         ensures units { self.new.units ≤ self.old.units }
+        ensures own { self.new.own ≡ self.old.own }
     {
         if n != 1 {
             return Err(self.wrong_count(name));
@@ -127,6 +129,7 @@ impl<W> Machine<W> {
         ensures stack { PushesOne (under n self.old.values.store.stack) result self.new.values.store.stack }
         ensures calm { IsCalm result }
         ensures units { self.new.units ≤ self.old.units }
+        ensures own { self.new.own ≡ self.old.own }
     {
         if n != 1 {
             return Err(self.wrong_count(name));
@@ -144,6 +147,7 @@ impl<W> Machine<W> {
         ensures stack { PushesOne (under n self.old.values.store.stack) result self.new.values.store.stack }
         ensures calm { IsCalm result }
         ensures units { self.new.units ≤ self.old.units }
+        ensures own { self.new.own ≡ self.old.own }
     {
         if n != 1 {
             return Err(self.wrong_count(name));
@@ -169,6 +173,7 @@ impl<W> Machine<W> {
         ensures stack { PushesOne (under n self.old.values.store.stack) result self.new.values.store.stack }
         ensures calm { IsCalm result }
         ensures units { self.new.units ≤ self.old.units }
+        ensures own { self.new.own ≡ self.old.own }
     {
         let mut found = first;
         for i in from..self.values.height() {
@@ -186,6 +191,7 @@ impl<W> Machine<W> {
         ensures stack { PushesOne (under n self.old.values.store.stack) result self.new.values.store.stack }
         ensures calm { IsCalm result }
         ensures units { self.new.units ≤ self.old.units }
+        ensures own { self.new.own ≡ self.old.own }
     {
         if n == 0 {
             return Err(self.wrong_count(name));
@@ -203,6 +209,7 @@ impl<W> Machine<W> {
         ensures stack { PushesOne (under n self.old.values.store.stack) result self.new.values.store.stack }
         ensures calm { IsCalm result }
         ensures units { self.new.units ≤ self.old.units }
+        ensures own { self.new.own ≡ self.old.own }
     {
         match function {
             Function::Absolute => self.absolute(name, n),

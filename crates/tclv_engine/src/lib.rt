@@ -36,7 +36,7 @@ mod values;
 mod variables;
 mod whole_numbers;
 
-pub use each_groups::{Group, Groups, turn_count};
+pub use each_groups::{Group, Groups};
 pub use endings::{Carried, End, Ended, Leaving};
 pub use host::Host;
 pub use machine::Machine;

@@ -13,27 +13,10 @@ ghost use Rattle.tclv_engine.specs.Answers.{Answers, IsCalm, KeepsStack, Pushes,
 use crate::endings::End;
 use crate::machine::Machine;
 use tclv_model::{CmdFault, ErrorCode, MessageId};
-use tclv_reply::Elements;
-use tclv_text::{NoMemory, Text};
+use tclv_text::NoMemory;
 use tclv_value::At;
 
 impl<W> Machine<W> {
-    /// The elements of the list that the text of a place is. A text that is no list is an error.
-    pub fn elements(&mut self, list: At) -> Result<Elements, End>
-        requires { HasPlace self.old.values.store list }
-        ensures answer { Answers (of_answer (list_of (text_at self.old.values.store list))) returned self.old result self.new }
-        ensures stack { KeepsStack self.old.values.store.stack result self.new.values.store.stack }
-        ensures calm { IsCalm result }
-        ensures same { SameState self.old self.new }
-    {
-        match self.values.elements(list) {
-            Ok(elements) => Ok(elements),
-            Err(CmdFault::NoMemory) => Err(End::Memory),
-            Err(CmdFault::WrongArgs) => Err(self.refuse()),
-            Err(CmdFault::Message) => Err(self.refuse()),
-        }
-    }
-
     /// How many elements the list has that the text of a place is. A text that is no list is an error.
     pub fn list_len(&mut self, list: At) -> Result<u64, End>
         requires { HasPlace self.old.values.store list }
@@ -83,38 +66,9 @@ impl<W> Machine<W> {
         Ok(())
     }
 
-    // Pushes the value of a number, and the empty text where there are not so many.
-    fn push_value(&mut self, values: &[Text], i: usize) -> Result<(), End>
-        ensures answer { Answers (done (slice_index_or values.now i [])) on_top self.old result self.new }
-        ensures stack { Pushes (slice_index_or values.now i []) self.old.values.store.stack result self.new.values.store.stack }
-        ensures calm { IsCalm result }
-        ensures units { self.new.units ≡ self.old.units }
-        ensures same { SameState self.old self.new }
-    {
-        if i < values.len() {
-            self.push_text(values[i].bytes())
-        } else {
-            self.push_text(b"")
-        }
-    }
-
-    /// Sets the variable whose name is this place of the stack to the value of a number, and to the
-    /// empty text where there are not so many.
-    pub fn assign_value(&mut self, name: usize, values: &[Text], i: usize) -> Result<(), End>
-        requires { name < length self.old.values.store.stack }
-        ensures answer { Answers (assign (text_at self.old.values.store (At.Stack name)) (slice_index_or values.now i [])) spec.unseen self.old result self.new }
-        ensures stack { KeepsStack self.old.values.store.stack result self.new.values.store.stack }
-        ensures calm { IsCalm result }
-        ensures units { self.new.units ≡ self.old.units }
-    {
-        self.push_value(values, i)?;
-        self.assign_top(At::Stack(name))?;
-        self.values.pop(1);
-        Ok(())
-    }
-
-    // Pushes the element of a number, and the empty text where the list has not so many.
-    fn push_element_or_empty(&mut self, list: usize, i: usize) -> Result<(), End>
+    /// Pushes the element of a number of the list at a place of the stack, and the empty text where the
+    /// list has not so many. It is shared and not copied.
+    pub fn push_element_or_empty(&mut self, list: usize, i: u64) -> Result<(), End>
         requires place { list < length self.old.values.store.stack }
         requires list { spec.IsList (text_at self.old.values.store (At.Stack list)) }
         ensures answer { Answers (done (slice_index_or (spec.listed (text_at self.old.values.store (At.Stack list))) i [])) on_top self.old result self.new }
@@ -123,16 +77,16 @@ impl<W> Machine<W> {
         ensures units { self.new.units ≡ self.old.units }
         ensures same { SameState self.old self.new }
     {
-        let found = self.push_element(list, i as u64)?;
+        let found = self.push_element(list, i)?;
         if found {
             return Ok(());
         }
         self.push_text(b"")
     }
 
-    // Sets the variable whose name is this place of the stack to the element of a number of the list
-    // at another place, and to the empty text where the list has not so many.
-    fn assign_element(&mut self, name: usize, list: usize, i: usize) -> Result<(), End>
+    /// Sets the variable whose name is this place of the stack to the element of a number of the list
+    /// at another place, and to the empty text where the list has not so many.
+    pub fn assign_element(&mut self, name: usize, list: usize, i: u64) -> Result<(), End>
         requires name { name < length self.old.values.store.stack }
         requires place { list < length self.old.values.store.stack }
         requires list { spec.IsList (text_at self.old.values.store (At.Stack list)) }
@@ -140,6 +94,7 @@ impl<W> Machine<W> {
         ensures stack { KeepsStack self.old.values.store.stack result self.new.values.store.stack }
         ensures calm { IsCalm result }
         ensures units { self.new.units ≡ self.old.units }
+        ensures own { self.new.own ≡ self.old.own }
     {
         self.push_element_or_empty(list, i)?;
         self.assign_top(At::Stack(name))?;
@@ -159,9 +114,10 @@ impl<W> Machine<W> {
         ensures stack { KeepsStack self.old.values.store.stack result self.new.values.store.stack }
         ensures calm { IsCalm result }
         ensures units { self.new.units ≡ self.old.units }
+        ensures own { self.new.own ≡ self.old.own }
     {
         for i in from..to {
-            self.assign_element(i, list, i - from)?;
+            self.assign_element(i, list, (i - from) as u64)?;
         }
         Ok(())
     }

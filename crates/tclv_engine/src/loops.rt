@@ -1,5 +1,5 @@
 // Loops: how a body ends a turn.
-ghost use Rattle.std.specs.Prelude.{◌≡◌, ◌<◌, ◌≤◌, OnOk};
+ghost use Rattle.std.specs.Prelude.{◌≡◌, ◌<◌, ◌≤◌, OnOk, true};
 ghost use Rattle.tclv_engine.specs.Evaluation as spec;
 ghost use Rattle.tclv_engine.specs.Evaluation.{whole};
 ghost use Rattle.tclv_engine.specs.Loops as loops;
@@ -33,10 +33,12 @@ impl<W> Machine<W> {
         out: &mut O,
         script: &Script,
     ) -> Result<BodyEnd, End>
+        requires fits { H.fits self.old.own (O.told out.old) ≡ true }
         ensures answer { AnswersOver (loops.body (whole H.given) script.now) loops.as_turn self.old (outer (O.told out.old) (O.torn out.old)) result self.new (outer (O.told out.new) (O.torn out.new)) }
         ensures stack { Leaves (loops.TurnLeaves self.old.values.store.stack) self.old.values.store.stack result self.new.values.store.stack }
         ensures cause { Caused (O.faults out.old) (O.faults out.new) result }
         ensures units { self.new.units ≤ self.old.units }
+        ensures fits { H.fits self.new.own (O.told out.new) ≡ true }
     {
         let height = self.values.height();
         let ended = self.script(host, out, script);
@@ -90,11 +92,13 @@ impl<W> Machine<W> {
         out: &mut O,
         script: &Script,
     ) -> Result<bool, End>
+        requires fits { H.fits self.old.own (O.told out.old) ≡ true }
         ensures answer { AnswersOver (loops.paid_body (whole H.given) script.now) returned self.old (outer (O.told out.old) (O.torn out.old)) result self.new (outer (O.told out.new) (O.torn out.new)) }
         ensures stack { KeepsStack self.old.values.store.stack result self.new.values.store.stack }
         ensures cause { Caused (O.faults out.old) (O.faults out.new) result }
         ensures units { self.new.units ≤ self.old.units }
         ensures fewer { OnOk result (self.new.units < self.old.units) }
+        ensures fits { H.fits self.new.own (O.told out.new) ≡ true }
     {
         self.take_unit()?;
         let ended = self.body(host, out, script)?;
@@ -129,10 +133,12 @@ impl<W> Machine<W> {
         out: &mut O,
         script: &Script,
     ) -> Result<bool, End>
+        requires fits { H.fits self.old.own (O.told out.old) ≡ true }
         ensures answer { AnswersOver (loops.between_turns (whole H.given) script.now) returned self.old (outer (O.told out.old) (O.torn out.old)) result self.new (outer (O.told out.new) (O.torn out.new)) }
         ensures stack { KeepsStack self.old.values.store.stack result self.new.values.store.stack }
         ensures cause { Caused (O.faults out.old) (O.faults out.new) result }
         ensures units { self.new.units ≤ self.old.units }
+        ensures fits { H.fits self.new.own (O.told out.new) ≡ true }
     {
         let height = self.values.height();
         let ended = self.script(host, out, script);

@@ -245,6 +245,7 @@ impl<W> Machine<W> {
         ensures stack { KeepsStack self.old.values.store.stack result self.new.values.store.stack }
         ensures calm { IsCalm result }
         ensures units { self.new.units ≤ self.old.units }
+        ensures own { self.new.own ≡ self.old.own }
     {
         self.values.make_text(at)?;
         match truth(self.values.lend(at)) {
@@ -260,6 +261,7 @@ impl<W> Machine<W> {
         ensures stack { KeepsStack self.old.values.store.stack result self.new.values.store.stack }
         ensures calm { IsCalm result }
         ensures units { self.new.units ≤ self.old.units }
+        ensures own { self.new.own ≡ self.old.own }
     {
         let last = self.values.height() - 1;
         self.truth_at(At::Stack(last))
@@ -272,6 +274,7 @@ impl<W> Machine<W> {
         ensures stack { KeepsStack (under 1 self.old.values.store.stack) result self.new.values.store.stack }
         ensures calm { IsCalm result }
         ensures units { self.new.units ≤ self.old.units }
+        ensures own { self.new.own ≡ self.old.own }
     {
         let b = self.truth_on_top()?;
         self.values.pop(1);
@@ -287,6 +290,7 @@ impl<W> Machine<W> {
         ensures stack { KeepsStack self.old.values.store.stack result self.new.values.store.stack }
         ensures calm { IsCalm result }
         ensures units { self.new.units ≤ self.old.units }
+        ensures own { self.new.own ≡ self.old.own }
     {
         match self.reading(at)? {
             Ok(n) => Ok(n),
@@ -304,6 +308,7 @@ impl<W> Machine<W> {
         ensures stack { PushesOne (under n self.old.values.store.stack) result self.new.values.store.stack }
         ensures calm { IsCalm result }
         ensures units { self.new.units ≤ self.old.units }
+        ensures own { self.new.own ≡ self.old.own }
     {
         self.values.pop(n);
         self.values.push_whole(value)?;
@@ -317,6 +322,7 @@ impl<W> Machine<W> {
         ensures stack { PushesOne (under n self.old.values.store.stack) result self.new.values.store.stack }
         ensures calm { IsCalm result }
         ensures units { self.new.units ≤ self.old.units }
+        ensures own { self.new.own ≡ self.old.own }
     {
         if b {
             self.number(n, 1)
@@ -332,6 +338,7 @@ impl<W> Machine<W> {
         ensures stack { PushesOne (under n self.old.values.store.stack) result self.new.values.store.stack }
         ensures calm { IsCalm result }
         ensures units { self.new.units ≤ self.old.units }
+        ensures own { self.new.own ≡ self.old.own }
     {
         match found {
             Ok(value) => self.number(n, value),
@@ -348,6 +355,7 @@ impl<W> Machine<W> {
         ensures stack { PushesOne (under 1 self.old.values.store.stack) result self.new.values.store.stack }
         ensures calm { IsCalm result }
         ensures units { self.new.units ≤ self.old.units }
+        ensures own { self.new.own ≡ self.old.own }
     {
         let last = At::Stack(self.values.height() - 1);
         let b = self.truth_at(last)?;
@@ -361,6 +369,7 @@ impl<W> Machine<W> {
         ensures stack { PushesOne (under 1 self.old.values.store.stack) result self.new.values.store.stack }
         ensures calm { IsCalm result }
         ensures units { self.new.units ≤ self.old.units }
+        ensures own { self.new.own ≡ self.old.own }
     {
         let last = At::Stack(self.values.height() - 1);
         let n = self.operand(last, unary_sign(op))?;
@@ -374,6 +383,7 @@ impl<W> Machine<W> {
         ensures stack { PushesOne (under 1 self.old.values.store.stack) result self.new.values.store.stack }
         ensures calm { IsCalm result }
         ensures units { self.new.units ≤ self.old.units }
+        ensures own { self.new.own ≡ self.old.own }
     {
         match op {
             Op1::Minus => self.signed(op),
@@ -392,6 +402,7 @@ impl<W> Machine<W> {
         ensures stack { PushesOne (under 2 self.old.values.store.stack) result self.new.values.store.stack }
         ensures calm { IsCalm result }
         ensures units { self.new.units ≤ self.old.units }
+        ensures own { self.new.own ≡ self.old.own }
     {
         let left = At::Stack(self.values.height() - 2);
         let right = At::Stack(self.values.height() - 1);
@@ -419,6 +430,7 @@ impl<W> Machine<W> {
         ensures stack { PushesOne (under 2 self.old.values.store.stack) result self.new.values.store.stack }
         ensures calm { IsCalm result }
         ensures units { self.new.units ≤ self.old.units }
+        ensures own { self.new.own ≡ self.old.own }
     {
         let by = self.order_of_two()?;
         self.truth_number(2, holds(op, by))
@@ -439,6 +451,7 @@ impl<W> Machine<W> {
         ensures stack { PushesOne (under 2 self.old.values.store.stack) result self.new.values.store.stack }
         ensures calm { IsCalm result }
         ensures units { self.new.units ≤ self.old.units }
+        ensures own { self.new.own ≡ self.old.own }
     {
         if same {
             self.truth_number(2, holds(op, by))
@@ -454,6 +467,7 @@ impl<W> Machine<W> {
         ensures stack { PushesOne (under 2 self.old.values.store.stack) result self.new.values.store.stack }
         ensures calm { IsCalm result }
         ensures units { self.new.units ≤ self.old.units }
+        ensures own { self.new.own ≡ self.old.own }
     {
         let left = At::Stack(self.values.height() - 2);
         let by = self.order_of_two()?;
@@ -469,6 +483,7 @@ impl<W> Machine<W> {
         ensures stack { PushesOne (under 2 self.old.values.store.stack) result self.new.values.store.stack }
         ensures calm { IsCalm result }
         ensures units { self.new.units ≤ self.old.units }
+        ensures own { self.new.own ≡ self.old.own }
     {
         let by = self.order_of_two()?;
         self.if_same(
@@ -487,6 +502,7 @@ impl<W> Machine<W> {
         ensures stack { PushesOne (under 2 self.old.values.store.stack) result self.new.values.store.stack }
         ensures calm { IsCalm result }
         ensures units { self.new.units ≤ self.old.units }
+        ensures own { self.new.own ≡ self.old.own }
     {
         match sorts {
             Comparands::Numbers(m, n) => self.calculated(2, apply2(op, m, n)),
@@ -516,6 +532,7 @@ impl<W> Machine<W> {
         ensures stack { PushesOne (under 2 self.old.values.store.stack) result self.new.values.store.stack }
         ensures calm { IsCalm result }
         ensures units { self.new.units ≤ self.old.units }
+        ensures own { self.new.own ≡ self.old.own }
     {
         let sorts = self.sorts_of_two()?;
         self.compare_as(op, sorts)
@@ -529,6 +546,7 @@ impl<W> Machine<W> {
         ensures stack { PushesOne (under 2 self.old.values.store.stack) result self.new.values.store.stack }
         ensures calm { IsCalm result }
         ensures units { self.new.units ≤ self.old.units }
+        ensures own { self.new.own ≡ self.old.own }
     {
         if compares(op) {
             self.compare(op)
@@ -587,6 +605,7 @@ impl<W> Machine<W> {
         ensures stack { PushesOne (under 2 self.old.values.store.stack) result self.new.values.store.stack }
         ensures calm { IsCalm result }
         ensures units { self.new.units ≤ self.old.units }
+        ensures own { self.new.own ≡ self.old.own }
     {
         let left = At::Stack(self.values.height() - 2);
         let right = At::Stack(self.values.height() - 1);
@@ -603,6 +622,7 @@ impl<W> Machine<W> {
         ensures stack { PushesOne (under 2 self.old.values.store.stack) result self.new.values.store.stack }
         ensures calm { IsCalm result }
         ensures units { self.new.units ≤ self.old.units }
+        ensures own { self.new.own ≡ self.old.own }
     {
         let by = self.order_of_two()?;
         self.truth_number(2, word_holds(op, by))
@@ -615,6 +635,7 @@ impl<W> Machine<W> {
         ensures stack { PushesOne (under 2 self.old.values.store.stack) result self.new.values.store.stack }
         ensures calm { IsCalm result }
         ensures units { self.new.units ≤ self.old.units }
+        ensures own { self.new.own ≡ self.old.own }
     {
         match op {
             WordOp::Among => self.membership(true),
@@ -638,6 +659,7 @@ impl<W> Machine<W> {
         ensures stack { PushesOne (under 1 self.old.values.store.stack) result self.new.values.store.stack }
         ensures calm { IsCalm result }
         ensures units { self.new.units ≤ self.old.units }
+        ensures own { self.new.own ≡ self.old.own }
     {
         let last = At::Stack(self.values.height() - 1);
         match self.reading(last)? {

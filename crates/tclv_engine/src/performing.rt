@@ -1,5 +1,5 @@
 // Performing what a command wants done.
-ghost use Rattle.std.specs.Prelude.{◌≡◌, ◌<◌, ◌≤◌, [], length, take, slice_index_or, Err};
+ghost use Rattle.std.specs.Prelude.{◌≡◌, ◌<◌, ◌≤◌, [], length, take, slice_index_or, Err, true};
 ghost use Rattle.std.specs.List.{All};
 ghost use Rattle.std.specs.Str.{chars};
 ghost use Rattle.tclv_model.specs.Message.{text_of};
@@ -55,10 +55,12 @@ impl<W> Machine<W> {
     ) -> Result<Carried, End>
         requires base { base ≤ length self.old.values.store.stack }
         requires over { plans.PlanOver (take base self.old.values.store.stack) plan self.old.values.store.stack }
+        requires fits { H.fits self.old.own (O.told out.old) ≡ true }
         ensures answer { AnswersOver (spec.perform left H.given (whole H.given) (plans.wanted_of plan self.old.values.store.stack)) as_outcome self.old (outer (O.told out.old) (O.torn out.old)) result self.new (outer (O.told out.new) (O.torn out.new)) }
         ensures stack { PushesResult (take base self.old.values.store.stack) result self.new.values.store.stack }
         ensures cause { Caused (O.faults out.old) (O.faults out.new) result }
         ensures units { self.new.units ≤ self.old.units }
+        ensures fits { H.fits self.new.own (O.told out.new) ≡ true }
     {
         match plan {
             Plan::Finished(kept) => Ok(kept),
@@ -67,7 +69,7 @@ impl<W> Machine<W> {
             Plan::Choice(branches) => {
                 self.run_branches(host, out, branches.items.as_slice(), branches.last)
             }
-            Plan::Tested(test, body) => self.tested_loop(host, out, test, body),
+            Plan::Tested(test, body) => self.repeated(host, out, test, None, body),
             Plan::Started(start, test, next, body) => {
                 self.started_loop(host, out, start, test, next, body)
             }
@@ -89,10 +91,12 @@ impl<W> Machine<W> {
     ) -> Result<Carried, End>
         requires base { base ≤ length self.old.values.store.stack }
         requires place { at < length self.old.values.store.stack }
+        requires fits { H.fits self.old.own (O.told out.old) ≡ true }
         ensures answer { AnswersOver (spec.around left H.given (whole H.given) (plans.placed self.old.values.store.stack at) behind) as_outcome self.old (outer (O.told out.old) (O.torn out.old)) result self.new (outer (O.told out.new) (O.torn out.new)) }
         ensures stack { PushesResult (take base self.old.values.store.stack) result self.new.values.store.stack }
         ensures cause { Caused (O.faults out.old) (O.faults out.new) result }
         ensures units { self.new.units ≤ self.old.units }
+        ensures fits { H.fits self.new.own (O.told out.new) ≡ true }
     {
         if left == 0 {
             return Err(End::Budget);
@@ -102,40 +106,25 @@ impl<W> Machine<W> {
         self.perform(host, out, plan, base, left - 1)
     }
 
-    /// Pushes what the expression gives that the text of a place is.
-    #[cycle(eval)]
-    #[tactic(auto, using(crate::proofs::Binds::calm_caused))]
-    fn expression_at<H: Host<Own = W>, O: Outside>(
-        &mut self,
-        host: &H,
-        out: &mut O,
-        at: At,
-    ) -> Result<(), End>
-        requires { HasPlace self.old.values.store at }
-        ensures answer { AnswersOver (expressions.evaluated (whole H.given) (text_at self.old.values.store at)) on_top self.old (outer (O.told out.old) (O.torn out.old)) result self.new (outer (O.told out.new) (O.torn out.new)) }
-        ensures stack { PushesOne self.old.values.store.stack result self.new.values.store.stack }
-        ensures cause { Caused (O.faults out.old) (O.faults out.new) result }
-        ensures units { self.new.units ≤ self.old.units }
-    {
-        let tree = self.parsed(at)?;
-        self.expression(host, out, &tree)
-    }
-
     /// Pushes the value of the expression that the text of a place of the stack is, as a result.
     #[cycle(eval)]
+    #[tactic(auto, using(crate::proofs::Binds::calm_caused))]
     fn value_at<H: Host<Own = W>, O: Outside>(
         &mut self,
         host: &H,
         out: &mut O,
         at: usize,
     ) -> Result<Carried, End>
-        requires { at < length self.old.values.store.stack }
+        requires place { at < length self.old.values.store.stack }
+        requires fits { H.fits self.old.own (O.told out.old) ≡ true }
         ensures answer { AnswersOver (spec.value_result (whole H.given) (plans.placed self.old.values.store.stack at)) as_outcome self.old (outer (O.told out.old) (O.torn out.old)) result self.new (outer (O.told out.new) (O.torn out.new)) }
         ensures stack { PushesOne self.old.values.store.stack result self.new.values.store.stack }
         ensures cause { Caused (O.faults out.old) (O.faults out.new) result }
         ensures units { self.new.units ≤ self.old.units }
+        ensures fits { H.fits self.new.own (O.told out.new) ≡ true }
     {
-        self.expression_at(host, out, At::Stack(at))?;
+        let found = self.parsed(At::Stack(at))?;
+        self.expression(host, out, &found)?;
         Ok(Carried::Plain)
     }
 
@@ -147,14 +136,16 @@ impl<W> Machine<W> {
         out: &mut O,
         at: At,
     ) -> Result<bool, End>
-        requires { HasPlace self.old.values.store at }
+        requires place { HasPlace self.old.values.store at }
+        requires fits { H.fits self.old.own (O.told out.old) ≡ true }
         ensures answer { AnswersOver (expressions.condition (whole H.given) (text_at self.old.values.store at)) returned self.old (outer (O.told out.old) (O.torn out.old)) result self.new (outer (O.told out.new) (O.torn out.new)) }
         ensures stack { KeepsStack self.old.values.store.stack result self.new.values.store.stack }
         ensures cause { Caused (O.faults out.old) (O.faults out.new) result }
         ensures units { self.new.units ≤ self.old.units }
+        ensures fits { H.fits self.new.own (O.told out.new) ≡ true }
     {
-        let tree = self.parsed(at)?;
-        self.test(host, out, &tree)
+        let found = self.parsed(at)?;
+        self.test(host, out, &found)
     }
 
     /// Evaluates tests one after another, up to the first that is true, and what that leads to; where
@@ -169,10 +160,12 @@ impl<W> Machine<W> {
     ) -> Result<Carried, End>
         requires items { All (plans.BranchInside self.old.values.store.stack) branches.now }
         requires last { plans.WayInside self.old.values.store.stack last }
+        requires fits { H.fits self.old.own (O.told out.old) ≡ true }
         ensures answer { AnswersOver (spec.choose (whole H.given) (plans.alternatives_of self.old.values.store.stack branches.now) (plans.lead_of self.old.values.store.stack last)) as_outcome self.old (outer (O.told out.old) (O.torn out.old)) result self.new (outer (O.told out.new) (O.torn out.new)) }
         ensures stack { PushesOne self.old.values.store.stack result self.new.values.store.stack }
         ensures cause { Caused (O.faults out.old) (O.faults out.new) result }
         ensures units { self.new.units ≤ self.old.units }
+        ensures fits { H.fits self.new.own (O.told out.new) ≡ true }
     {
         for i in 0..branches.len() {
             let branch = branch_at(branches, i);
@@ -204,11 +197,13 @@ impl<W> Machine<W> {
         out: &mut O,
         way: Way,
     ) -> Result<Carried, End>
-        requires { plans.WayInside self.old.values.store.stack way }
+        requires way { plans.WayInside self.old.values.store.stack way }
+        requires fits { H.fits self.old.own (O.told out.old) ≡ true }
         ensures answer { AnswersOver (spec.lead (whole H.given) (plans.lead_of self.old.values.store.stack way)) as_outcome self.old (outer (O.told out.old) (O.torn out.old)) result self.new (outer (O.told out.new) (O.torn out.new)) }
         ensures stack { PushesOne self.old.values.store.stack result self.new.values.store.stack }
         ensures cause { Caused (O.faults out.old) (O.faults out.new) result }
         ensures units { self.new.units ≤ self.old.units }
+        ensures fits { H.fits self.new.own (O.told out.new) ≡ true }
     {
         match way {
             Way::Body(at) => self.script_at(host, out, At::Stack(at)),

@@ -45,7 +45,7 @@ pub enum Plan<K> {
     Tested(usize, usize),
     /// A loop: its start, its test, the script between two turns, and its body.
     Started(usize, usize, usize, usize),
-    /// A loop over lists: its variables with their values, its body, and whether the list of the
-    /// body's results is the result.
+    /// A loop over lists: its variables with their values, by the places of their lists, its body, and
+    /// whether the list of the body's results is the result.
     Each(Groups, usize, bool),
 }

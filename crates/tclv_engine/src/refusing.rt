@@ -1,6 +1,6 @@
 // What the answer of a data command becomes.
 ghost use Rattle.std.specs.Prelude.{◌≡◌, ◌≤◌, Ok, length, IfErr, OnOk};
-ghost use Rattle.tclv_engine.specs.DataAnswers as spec;
+ghost use Rattle.tclv_engine.specs.DataSteps as steps;
 ghost use Rattle.tclv_engine.specs.Answers.{SameState};
 
 use crate::endings::{End, Leaving};
@@ -12,7 +12,7 @@ impl<W> Machine<W> {
     /// The error whose message and code are the top texts of the stack.
     pub fn refuse(&mut self) -> End
         requires { 2 ≤ length self.old.values.store.stack }
-        ensures refuses { spec.BecomesError self.old.values.store.stack result self.new.values.store.stack }
+        ensures refuses { steps.BecomesError self.old.values.store.stack result self.new.values.store.stack }
         ensures same { SameState self.old self.new }
     {
         let mut code = Text::new(Vec::new(self.alloc));
@@ -25,9 +25,9 @@ impl<W> Machine<W> {
     /// Ends a data command by what its call answered. A refusal becomes an error, whose message and
     /// code are the top texts of the stack.
     pub fn end_data(&mut self, done: Result<(), CmdFault>) -> Result<(), End>
-        requires { IfErr done (λ kind. spec.HasReply kind self.old.values.store.stack) }
+        requires { IfErr done (λ kind. steps.HasReply kind self.old.values.store.stack) }
         ensures given { OnOk done ((result ≡ Ok tt) × (self.new.values.store.stack ≡ self.old.values.store.stack)) }
-        ensures refused { IfErr done (λ kind. spec.EndsRefused kind self.old.values.store.stack result self.new.values.store.stack) }
+        ensures refused { IfErr done (λ kind. steps.EndsRefused kind self.old.values.store.stack result self.new.values.store.stack) }
         ensures same { SameState self.old self.new }
     {
         match done {

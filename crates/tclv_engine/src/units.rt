@@ -14,6 +14,7 @@ impl<W> Machine<W> {
         ensures calm { IsCalm result }
         ensures units { self.new.units ≤ self.old.units }
         ensures one { OnOk result (self.new.units + 1 ≡ self.old.units) }
+        ensures own { self.new.own ≡ self.old.own }
     {
         if self.units == 0 {
             return Err(End::Budget);

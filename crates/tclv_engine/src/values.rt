@@ -9,20 +9,21 @@ ghost use Rattle.std.specs.Option.{option_map};
 ghost use Rattle.tclv_text.specs.Texts.{IsText};
 ghost use Rattle.tclv_text.specs.Numbers.{whole, whole_text};
 ghost use Rattle.tclv_parse.specs.Grammar.{commands};
-ghost use Rattle.tclv_exprp.specs.ExpressionGrammar as grammar;
-ghost use Rattle.tclv_exprp.specs.ExpressionGrammar.{expression};
+ghost use Rattle.tclv_exprp.specs.Flat as instructions;
+ghost use Rattle.tclv_exprp.specs.Flat.{instructions_of};
 ghost use Rattle.tclv_vars.specs.Clearing.{outermost, outermost_texts, IsOutermost};
 ghost use Rattle.tclv_vars.specs.Table.{no_variables, read, write, Refuses};
 ghost use Rattle.tclv_value.specs.View.{HasPlace, text_at, IsMade};
 ghost use Rattle.tclv_value.specs.Stacks.{top, under};
 
+use sqlite_items::Items;
 use std::alloc::Global;
 use std::marker::Model;
 use std::rc::Rc;
-use tclv_exprp::{ExprFault, ExprTree};
+use tclv_exprp::{ExprFault, Instruction};
 use tclv_model::CmdFault;
 use tclv_parse::Script;
-use tclv_reply::{Elements, list_elements, list_len};
+use tclv_reply::list_len;
 use tclv_text::{NoMemory, Stats, Text};
 use tclv_value::{At, Store, ValueFault};
 use tclv_vars::{Place, VarFault, Vars};
@@ -72,6 +73,8 @@ impl Values {
     ghost use Rattle.tclv_value.specs.Answers.{RefusesWhole};
     ghost use Rattle.tclv_engine.specs.Holdings.{Sets, SameVariables, Assigned};
     ghost use Rattle.tclv_engine.specs.Names.{bytes_of};
+    ghost use Rattle.tclv_engine.specs.Instructions.{IsBetween};
+    ghost use Rattle.tclv_engine.specs.Plans.{placed};
 
     /// An empty stack and no variables.
     pub fn new(alloc: Global) -> Result<Values, NoMemory>
@@ -185,12 +188,25 @@ impl Values {
         self.store.script(at)
     }
 
-    /// The tree of the expression that the text of a place is. No text changes. Refuses as
+    /// The tree of the script that a text of the stack is, where there is a place. No text changes.
+    pub fn script_or_none(&mut self, at: Option<usize>) -> Result<Option<Rc<Script>>, NoMemory>
+        requires { IfSome at (λ n. n < length self.old.store.stack) }
+        ensures trees { IfOk result (λ found. IsBetween (placed self.old.store.stack) at found) }
+        ensures stack { self.new.store.stack ≡ self.old.store.stack }
+        ensures same { SameVariables self.old self.new }
+    {
+        match at {
+            None => Ok(None),
+            Some(n) => Ok(Some(self.script(At::Stack(n))?)),
+        }
+    }
+
+    /// The instructions of the expression that the text of a place is. No text changes. Refuses as
     /// `tclv_value::Store::expr` does.
-    pub fn expr(&mut self, at: At) -> Result<Rc<ExprTree>, ExprFault>
+    pub fn expr(&mut self, at: At) -> Result<Rc<Items<Instruction>>, ExprFault>
         requires { HasPlace self.old.store at }
-        ensures tree { IfOk result (λ tree. expression (text_at self.old.store at) ≡ Ok tree.value) }
-        ensures refused { IfErr result (λ fault. grammar.Answers (expression (text_at self.old.store at)) (Err fault)) }
+        ensures instructions { IfOk result (λ found. instructions_of (text_at self.old.store at) ≡ Ok found.value) }
+        ensures refused { IfErr result (λ fault. instructions.Answers (instructions_of (text_at self.old.store at)) (Err fault)) }
         ensures stack { self.new.store.stack ≡ self.old.store.stack }
         ensures same { SameVariables self.old self.new }
     {
@@ -293,16 +309,6 @@ impl Values {
     {
         self.make_text(name)?;
         self.write_top(name)
-    }
-
-    /// The elements of the list that the text of a place is. No text changes; where the text is no
-    /// list, the message and the error code are pushed.
-    pub fn elements(&mut self, list: At) -> Result<Elements, CmdFault>
-        requires { HasPlace self.old.store list }
-        ensures read { replies.Reads (list_of (text_at self.old.store list)) (λ ts x. x ≡ ts) self.old.store self.new.store result }
-        ensures same { SameVariables self.old self.new }
-    {
-        list_elements(&mut self.store, list)
     }
 
     /// How many elements the list has that the text of a place is. No text changes; where the text is

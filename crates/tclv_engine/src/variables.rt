@@ -49,6 +49,7 @@ impl<W> Machine<W> {
         ensures stack { PushesOne self.old.values.store.stack result self.new.values.store.stack }
         ensures calm { IsCalm result }
         ensures units { self.new.units ≡ self.old.units }
+        ensures own { self.new.own ≡ self.old.own }
     {
         if is_unbuilt(name) {
             return Err(self.not_built());
@@ -69,6 +70,7 @@ impl<W> Machine<W> {
         ensures stack { Pushes (text_at self.old.values.store (At.Cell cell)) self.old.values.store.stack result self.new.values.store.stack }
         ensures calm { IsCalm result }
         ensures units { self.new.units ≡ self.old.units }
+        ensures own { self.new.own ≡ self.old.own }
     {
         self.values.push_copy(At::Cell(cell))?;
         Ok(())
@@ -81,6 +83,7 @@ impl<W> Machine<W> {
         ensures stack { PushesOne self.old.values.store.stack result self.new.values.store.stack }
         ensures calm { IsCalm result }
         ensures units { self.new.units ≡ self.old.units }
+        ensures own { self.new.own ≡ self.old.own }
     {
         self.values.make_text(name)?;
         self.push_made_variable(name)
@@ -95,6 +98,7 @@ impl<W> Machine<W> {
         ensures stack { PushesOne self.old.values.store.stack result self.new.values.store.stack }
         ensures calm { IsCalm result }
         ensures units { self.new.units ≡ self.old.units }
+        ensures own { self.new.own ≡ self.old.own }
     {
         if is_unbuilt(self.values.lend(name)) {
             return Err(self.not_built());
@@ -117,6 +121,7 @@ impl<W> Machine<W> {
         ensures stack { KeepsStack self.old.values.store.stack result self.new.values.store.stack }
         ensures calm { IsCalm result }
         ensures units { self.new.units ≡ self.old.units }
+        ensures own { self.new.own ≡ self.old.own }
     {
         self.values.make_text(name)?;
         self.assign_made(name)
@@ -131,6 +136,7 @@ impl<W> Machine<W> {
         ensures stack { KeepsStack self.old.values.store.stack result self.new.values.store.stack }
         ensures calm { IsCalm result }
         ensures units { self.new.units ≡ self.old.units }
+        ensures own { self.new.own ≡ self.old.own }
     {
         if is_unbuilt(self.values.lend(name)) {
             return Err(self.not_built());

@@ -17,6 +17,7 @@ impl<W> Machine<W> {
         ensures stack { KeepsStack self.old.values.store.stack result self.new.values.store.stack }
         ensures calm { IsCalm result }
         ensures units { self.new.units ≡ self.old.units }
+        ensures own { self.new.own ≡ self.old.own }
     {
         match self.values.whole(at) {
             Ok(n) => Ok(n),

@@ -47,6 +47,7 @@ loop-i-preserved g c =
     let within : c.loop-i.i - c.args.from < length names = omega (arith, after, before, length_between stack c.args.from c.args.to c.requires.order c.requires.places) in
     record {
       stack = c.in_ok-assign_element.ensures.stack ∙ c.loop-i.invariant.stack;
+      own = c.in_ok-assign_element.ensures.own ∙ c.loop-i.invariant.own;
       units_left = omega (arith, c.in_ok-assign_element.ensures.units, c.loop-i.invariant.units_left);
       goes = λ here w told r after_all k. c.loop-i.invariant.goes here w told r after_all
           (λ v e. runs_as (assign_step names values (c.loop-i.i - c.args.from) (c.loop-i.i + 1 - c.args.from) _ _ (state_of c.loop-i.self v) within (omega (arith, after))

@@ -12,7 +12,7 @@ use Rattle.tclv_engine.proofs.machine.Machine.picked.Goals as goal
 
 pub loop-i-init : goal.loop-i-init
 loop-i-init g c =
-    record { units = omega arith; stack = refl; walk = λ here. begins on_top c.args.self.now c.args.self.now here 0 _ _ _ refl refl refl (λ w. refl) }
+    record { units = omega arith; stack = refl; own = refl; walk = λ here. begins on_top c.args.self.now c.args.self.now here 0 _ _ _ _ refl tt refl refl (λ w. refl) }
 
 pub returns-in_err-next-clause-answer : goal.returns-in_err-next-clause-answer
 returns-in_err-next-clause-answer g c here w told =
@@ -35,10 +35,12 @@ loop-i-preserved g c =
     record {
       units = omega (arith, c.loop-i.invariant.units, c.in_ok-next.ensures.units);
       stack = kept;
+      own = c.in_ok-next.ensures.own ∙ c.loop-i.invariant.own;
       walk = λ here. record {
         quiet = refl;
         units_left = omega (arith, c.loop-i.invariant.units, c.in_ok-next.ensures.units);
         shape = kept;
+        fits = tt;
         goes = λ w told r after end k.
             (c.loop-i.invariant.walk here).goes w told _ _ _
             (λ v e. runs_as (picked-step c.args.pick (chars c.args.name.now) _ stack c.loop-i.i (state_of c.loop-i.self v) here-i)
