@@ -1,14 +1,14 @@
 -- The rows of `foreach` and `lmap`, by the count of their words.
-use Rattle.std.proofs.Common.{◌≡◌, ℕ, ◌+◌, ◌-◌, ◌<◌, ◌≤◌, Bool, true, false, if◌then◌else◌, List, [], length, take, drop, get_or, sym, ap, ◌∙◌, arith}
+use Rattle.std.proofs.Common.{◌≡◌, ℕ, ◌+◌, ◌-◌, ◌<◌, ◌≤◌, Bool, true, false, if◌then◌else◌, List, [], length, take, drop, get_or, sym, subst, ap, ◌∙◌, arith, length-take}
 use Rattle.std.proofs.lemmas.List.{drop-drop, drop-take, get_or-drop}
 use Rattle.tclv_model.specs.declared.messages.MessageId.{MessageId}
 use Rattle.tclv_model.specs.declared.usages.Usage.{Usage}
 use Rattle.tclv_model.specs.Usages.{usage_of}
-use Rattle.tclv_value.specs.Stacks.{top}
+use Rattle.tclv_value.specs.Stacks.{top, under}
 use Rattle.tclv_engine.specs.State.{Text, State}
 use Rattle.tclv_engine.specs.Usages.{usage}
 use Rattle.tclv_engine.specs.Plans.{Wanted, placed}
-use Rattle.tclv_engine.specs.Answers.{last_of}
+use Rattle.tclv_engine.specs.Answers.{Keeps, last_of}
 use Rattle.tclv_engine.proofs.WordLemmas.{top_length}
 use Rattle.tclv_control.specs.EachRows.{is_paired, pairs_of, each, wanted_each}
 
@@ -25,6 +25,12 @@ pub body_placed : (stack now : List Text) (n at : ℕ) → n ≤ length stack �
 body_placed stack now n at l some e k =
     let len = top_length stack n l in
     get_or-drop (length stack - n) stack (length (top n stack) - 1) [] ∙ ap (λ i. get_or stack i []) (omega (arith, e, len, l, some)) ∙ ap (λ s. get_or s at []) (sym k)
+
+-- a stack that stands as it was keeps what is below its words
+pub keeps_lowest : (stack now : List Text) (n : ℕ) → now ≡ stack → Keeps (under n stack) now
+keeps_lowest stack now n e =
+    let len : length (under n stack) ≡ length stack - n = omega (arith, length-take (length stack - n) stack) in
+    subst (λ s. Keeps (under n stack) s) (sym e) (record { kept = ap (λ k. take k stack) len; some = omega (arith, len) })
 
 -- words that are pairs and a body, and others
 module _ {W : Type 0} (K : Type 0) (form : Usage) (empty : MessageId) (keep : Bool) (stack : List Text) (n : ℕ) (st : (State W)) (l : n ≤ length stack) where

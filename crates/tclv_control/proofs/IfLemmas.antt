@@ -19,7 +19,8 @@ use Rattle.tclv_engine.specs.Plans.{Script, Refused, Nothing, Alternative, Wante
 use Rattle.tclv_engine.proofs.WordLemmas.{top_length}
 use Rattle.tclv_control.specs.declared.if_plans.Behind.{Behind}
 use Rattle.tclv_control.specs.declared.if_plans.Behind.TheVariants as behind
-use Rattle.tclv_control.specs.IfRows.{begins, Sought, Body, Missing, first_body, body_behind, last_body, bare_body, else_body, last_lead, Clauses, only, leads, preceded, behind_body, behind_test, clause, clauses, choice, wanted_if, clauses_of, with_left, IsRead}
+use Rattle.tclv_control.specs.IfRows.{begins, Sought, Body, Missing, first_body, body_behind, last_body, bare_body, else_body, last_lead, Clauses, only, leads, preceded, behind_body, behind_test, clause, clauses, choice, wanted_if}
+use Rattle.tclv_control.specs.IfSteps.{clauses_of, with_left, IsRead}
 
 -- ---- the words behind a place
 

@@ -17,7 +17,8 @@ use Rattle.tclv_engine.specs.State.{Text, State, state_of}
 use Rattle.tclv_engine.specs.Results.{bind, done, plain}
 use Rattle.tclv_engine.specs.Usages.{call_word}
 use Rattle.tclv_engine.specs.Answers.{Outer, Runs, start, SameState}
-use Rattle.tclv_engine.specs.DataAnswers.{of_answer, BecomesError}
+use Rattle.tclv_engine.specs.DataAnswers.{of_answer}
+use Rattle.tclv_engine.specs.DataSteps.{BecomesError}
 use Rattle.tclv_engine.specs.Plans.{Run, Finished}
 use Rattle.tclv_engine.proofs.Binds.{runs_as}
 use Rattle.tclv_engine.proofs.Leaves.{value_runs, raise_runs, raises_as}

@@ -1,20 +1,13 @@
 -- The row of `if`. All its clauses are read off its words before any test is evaluated. What is wrong with the words is what a test leads to, or
 -- what counts where no test is true: so it is met only where the evaluation comes to it.
-use Rattle.std.specs.Prelude.{◌≡◌, ℕ, zero, suc, ◌+◌, ◌<◌, Bool, false, if◌then◌else◌, List, [], ◌∷◌, ◌++◌, drop, length, map, codes}
+use Rattle.std.specs.Prelude.{ℕ, zero, suc, ◌+◌, Bool, false, if◌then◌else◌, List, [], ◌∷◌, ◌++◌, drop, length, codes}
 use Rattle.std.specs.Str.{bytes_eq}
 use Rattle.tclv_model.specs.declared.messages.MessageId.TheVariants as message
-use Rattle.tclv_engine.specs.declared.plans.Branch.{Branch}
-use Rattle.tclv_engine.specs.declared.plans.Branches.{Branches}
-use Rattle.tclv_engine.specs.declared.plans.Way.{Way}
 use Rattle.tclv_engine.specs.State.{Text, State}
 use Rattle.tclv_engine.specs.Results.{Res, done}
 use Rattle.tclv_engine.specs.Names.{bytes_of}
 use Rattle.tclv_engine.specs.Usages.{call_word}
-use Rattle.tclv_engine.specs.Plans.{Lead, Script, Refused, Nothing, Alternative, Wanted, Choice, WayInside, placed, lead_of, alternative_of}
-use Rattle.tclv_control.specs.declared.if_plans.Found.{Found}
-use Rattle.tclv_control.specs.declared.if_plans.Found.TheVariants as found
-use Rattle.tclv_control.specs.declared.if_plans.Behind.{Behind}
-use Rattle.tclv_control.specs.declared.if_plans.Behind.TheVariants as behind
+use Rattle.tclv_engine.specs.Plans.{Lead, Script, Refused, Nothing, Alternative, Wanted, Choice}
 
 -- ---- bodies
 
@@ -103,42 +96,3 @@ choice c = Choice c.alternatives c.last
 -- `if expr1 ?then? body1 ?elseif expr2 ?then? body2? ... ?else? ?bodyN?`: what the first true test leads to, or the last lead
 abbrev pub wanted_if : {W K : Type 0} → List Text → (State W) → Res W (Wanted K)
 wanted_if words st = done (choice (clauses (length words) (call_word words) (drop 1 words))) st
-
--- ---- in the code
-
--- what stands behind a word, by places of the stack
-abbrev pub sought_of : List Text → Found → Sought
-sought_of stack (found.Body at) = Body (placed stack at) (drop (at + 1) stack)
-sought_of stack (found.Missing at) = Missing (placed stack at)
-
--- the place is there
-abbrev pub FoundInside : List Text → Found → Type 0
-FoundInside stack (found.Body at) = at < length stack
-FoundInside stack (found.Missing at) = at < length stack
-
--- the clauses that the code read
-abbrev pub clauses_of : List Text → Branches → Clauses
-clauses_of stack branches = record { alternatives = map (alternative_of stack) branches.items.items; last = lead_of stack branches.last }
-
--- the clauses that are left, which are at most n
-abbrev pub left_of : ℕ → List Text → Behind → Clauses
-left_of n stack (behind.Another at) = clauses n (placed stack at) (drop (at + 1) stack)
-left_of n stack (behind.Last way) = only (lead_of stack way)
-
--- What a test leads to, and what is left behind it, are those of what stands behind the test.
-abbrev pub IsLed : List Text → Found → Way × Behind → Type 0
-IsLed stack found led =
-    (n : ℕ) (test : Text) → preceded (leads test (lead_of stack led.0) ∷ []) (left_of n stack led.1) ≡ behind_test (clauses n) test (sought_of stack found)
-
--- the branches so far, and the clauses that are left behind them
-abbrev pub with_left : ℕ → List Text → List Branch → Behind → Clauses
-with_left n stack items b = preceded (map (alternative_of stack) items) (left_of n stack b)
-
--- The clause behind a word was read, and what is left stands behind it.
-abbrev pub IsRead : List Text → ℕ → List Branch → List Branch → Behind → Type 0
-IsRead stack word before items b = (n : ℕ) → with_left (suc n) stack before (behind.Another word) ≡ with_left n stack items b
-
--- the places are there
-abbrev pub BehindInside : List Text → Behind → Type 0
-BehindInside stack (behind.Another at) = at < length stack
-BehindInside stack (behind.Last way) = WayInside stack way

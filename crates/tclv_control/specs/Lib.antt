@@ -3,4 +3,5 @@ pub mod EachRows
 pub mod ScriptRows
 pub mod SwitchRows
 pub mod IfRows
+pub mod IfSteps
 pub mod ControlRows

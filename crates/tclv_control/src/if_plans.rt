@@ -5,6 +5,7 @@ ghost use Rattle.tclv_value.specs.Stacks.{top, under};
 ghost use Rattle.tclv_engine.specs.Plans.{BranchInside, BranchesInside, PlanOver, WayInside, as_plan, lead_of, placed};
 ghost use Rattle.tclv_engine.specs.Answers.{Answers, IsCalm, Leaves, SameState};
 ghost use Rattle.tclv_control.specs.IfRows as rows;
+ghost use Rattle.tclv_control.specs.IfSteps as steps;
 
 use tclv_engine::{Branch, Branches, End, Machine, Plan, Way};
 use tclv_model::MessageId;
@@ -34,8 +35,11 @@ fn place_behind<W>(machine: &Machine<W>, at: usize) -> usize
     requires { at < length machine.now.values.store.stack }
     ensures { result ≡ at + 1 }
 {
-    let end = machine.values.height();
-    if at < end { at + 1 } else { end }
+    if at < machine.values.height() {
+        at + 1
+    } else {
+        unreachable!()
+    }
 }
 
 // Whether this word stands at a place of the stack, if any does.
@@ -57,8 +61,8 @@ fn begins<W>(machine: &mut Machine<W>, at: usize, word: &[u8]) -> Result<bool, N
 fn first_body<W>(machine: &Machine<W>, before: usize) -> Found
     requires { before < length machine.now.values.store.stack }
     ensures found { let stack = machine.now.values.store.stack in
-        rows.sought_of stack result ≡ rows.first_body (placed stack before) (drop (before + 1) stack) }
-    ensures inside { rows.FoundInside machine.now.values.store.stack result }
+        steps.sought_of stack result ≡ rows.first_body (placed stack before) (drop (before + 1) stack) }
+    ensures inside { steps.FoundInside machine.now.values.store.stack result }
 {
     let next = place_behind(machine, before);
     if next < machine.values.height() {
@@ -72,8 +76,8 @@ fn first_body<W>(machine: &Machine<W>, before: usize) -> Found
 fn body_behind<W>(machine: &mut Machine<W>, test: usize) -> Result<Found, NoMemory>
     requires { test < length machine.old.values.store.stack }
     ensures found { let stack = machine.old.values.store.stack in
-        IfOk result (λ f. rows.sought_of stack f ≡ rows.body_behind (placed stack test) (drop (test + 1) stack)) }
-    ensures inside { IfOk result (rows.FoundInside machine.old.values.store.stack) }
+        IfOk result (λ f. steps.sought_of stack f ≡ rows.body_behind (placed stack test) (drop (test + 1) stack)) }
+    ensures inside { IfOk result (steps.FoundInside machine.old.values.store.stack) }
     ensures same { SameState machine.old machine.new }
     ensures stack { machine.new.values.store.stack ≡ machine.old.values.store.stack }
 {
@@ -144,8 +148,8 @@ fn last_lead<W>(machine: &mut Machine<W>, next: usize) -> Result<Way, NoMemory>
 fn behind_body<W>(machine: &mut Machine<W>, body: usize) -> Result<Behind, NoMemory>
     requires { body < length machine.old.values.store.stack }
     ensures left { let stack = machine.old.values.store.stack in
-        IfOk result (λ b. (n : ℕ) → rows.left_of n stack b ≡ rows.behind_body (rows.clauses n) (drop (body + 1) stack)) }
-    ensures inside { IfOk result (rows.BehindInside machine.old.values.store.stack) }
+        IfOk result (λ b. (n : ℕ) → steps.left_of n stack b ≡ rows.behind_body (rows.clauses n) (drop (body + 1) stack)) }
+    ensures inside { IfOk result (steps.BehindInside machine.old.values.store.stack) }
     ensures same { SameState machine.old machine.new }
     ensures stack { machine.new.values.store.stack ≡ machine.old.values.store.stack }
 {
@@ -158,10 +162,10 @@ fn behind_body<W>(machine: &mut Machine<W>, body: usize) -> Result<Behind, NoMem
 
 // What a test leads to, and what stands behind its clause.
 fn behind_test<W>(machine: &mut Machine<W>, found: Found) -> Result<(Way, Behind), NoMemory>
-    requires { rows.FoundInside machine.old.values.store.stack found }
-    ensures left { IfOk result (rows.IsLed machine.old.values.store.stack found) }
+    requires { steps.FoundInside machine.old.values.store.stack found }
+    ensures left { IfOk result (steps.IsLed machine.old.values.store.stack found) }
     ensures way { IfOk result (λ p. WayInside machine.old.values.store.stack p.0) }
-    ensures inside { IfOk result (λ p. rows.BehindInside machine.old.values.store.stack p.1) }
+    ensures inside { IfOk result (λ p. steps.BehindInside machine.old.values.store.stack p.1) }
     ensures same { SameState machine.old machine.new }
     ensures stack { machine.new.values.store.stack ≡ machine.old.values.store.stack }
 {
@@ -185,9 +189,9 @@ fn read_clause<W>(
 ) -> Result<Behind, NoMemory>
     requires word { word < length machine.old.values.store.stack }
     requires items { All (BranchInside machine.old.values.store.stack) items.old.items }
-    ensures left { IfOk result (λ b. rows.IsRead machine.old.values.store.stack word items.old.items items.new.items b) }
+    ensures left { IfOk result (λ b. steps.IsRead machine.old.values.store.stack word items.old.items items.new.items b) }
     ensures items { IfOk result (λ b. All (BranchInside machine.old.values.store.stack) items.new.items) }
-    ensures inside { IfOk result (rows.BehindInside machine.old.values.store.stack) }
+    ensures inside { IfOk result (steps.BehindInside machine.old.values.store.stack) }
     ensures same { SameState machine.old machine.new }
     ensures stack { machine.new.values.store.stack ≡ machine.old.values.store.stack }
 {
@@ -205,7 +209,7 @@ fn read_clause<W>(
 fn read_clauses<W>(machine: &mut Machine<W>, first: usize) -> Result<Branches, NoMemory>
     requires { first < length machine.old.values.store.stack }
     ensures clauses { let stack = machine.old.values.store.stack in
-        IfOk result (λ b. rows.clauses_of stack b ≡ rows.clauses (length stack - first) (placed stack first) (drop (first + 1) stack)) }
+        IfOk result (λ b. steps.clauses_of stack b ≡ rows.clauses (length stack - first) (placed stack first) (drop (first + 1) stack)) }
     ensures inside { IfOk result (BranchesInside machine.old.values.store.stack) }
     ensures same { SameState machine.old machine.new }
     ensures stack { machine.new.values.store.stack ≡ machine.old.values.store.stack }

@@ -16,7 +16,8 @@ use Rattle.tclv_engine.proofs.Leaves.{done_runs, left_runs}
 use Rattle.tclv_interp.specs.declared.builtins.Tables.{Tables}
 use Rattle.tclv_interp.specs.declared.commands.Behind.{Behind}
 use Rattle.tclv_interp.specs.declared.commands.Behind.TheVariants.{HandOn}
-use Rattle.tclv_interp.specs.Commands.{finish, handed_on}
+use Rattle.tclv_interp.specs.Commands.{finish}
+use Rattle.tclv_interp.specs.CommandSteps.{handed_on}
 
 handed_runs : (e : Ended) (m : Machine Tables) (w : World) (here : Outer) → here.told ≡ Some w →
     Runs (finish HandOn (concluded e (last_of m.values.store.stack)) (state_of m w)) as_plan (start m w here.torn) (handed_on e) m here

@@ -1,15 +1,8 @@
 -- The meaning of the commands: what their words want done, and what is done behind a script.
-use Rattle.std.specs.Prelude.{List, [], ◌∷◌, Result, Ok, Err}
+use Rattle.std.specs.Prelude.{List, [], ◌∷◌, Ok}
 use Rattle.tclv_model.specs.declared.outcomes.Code.{Code}
 use Rattle.tclv_model.specs.declared.outcomes.Code.TheVariants as code
 use Rattle.tclv_model.specs.declared.outcomes.Pair.{Pair}
-use Rattle.tclv_engine.specs.declared.endings.End.{End}
-use Rattle.tclv_engine.specs.declared.endings.End.TheVariants as end
-use Rattle.tclv_engine.specs.declared.endings.Ended.{Ended}
-use Rattle.tclv_engine.specs.declared.endings.Ended.TheVariants as ended
-use Rattle.tclv_engine.specs.declared.endings.Leaving.TheVariants as leaving
-use Rattle.tclv_engine.specs.declared.plans.Plan.{Plan}
-use Rattle.tclv_engine.specs.declared.plans.Plan.TheVariants as plan
 use Rattle.tclv_interp.specs.declared.builtins.Tables.{Tables}
 use Rattle.tclv_interp.specs.declared.commands.Behind.{Behind}
 use Rattle.tclv_interp.specs.declared.commands.Behind.TheVariants.{HandOn}
@@ -71,11 +64,3 @@ finish HandOn e st = hand_on e.code e.text e.options st
 -- the meaning of the commands
 abbrev pub shell : Given Tables Behind
 shell = record { plan = plan_of; finish = finish }
-
--- ---- in the code
-
--- how a script ended, handed on
-abbrev pub handed_on : Ended → Result (Plan Behind) End
-handed_on (ended.Ok kept) = Ok (plan.Finished kept)
-handed_on (ended.Left (leaving.Other code.Ok kept)) = Ok (plan.Finished kept)
-handed_on (ended.Left l) = Err (end.Left l)

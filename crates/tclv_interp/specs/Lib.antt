@@ -1,4 +1,5 @@
 pub mod Builtins
 pub mod Commands
+pub mod CommandSteps
 pub mod Counts
 pub mod Interpreters

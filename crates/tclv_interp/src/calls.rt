@@ -8,7 +8,7 @@ ghost use Rattle.tclv_value.specs.View.{HasPlace};
 ghost use Rattle.tclv_vars.specs.Clearing.{IsOutermost};
 ghost use Rattle.tclv_engine.specs.Answers as answers;
 ghost use Rattle.tclv_engine.specs.Answers.{outer, AtWorld, HasResult, SameState, last_of};
-ghost use Rattle.tclv_engine.specs.Results.{option, code_number, code_options, carried, error_options};
+ghost use Rattle.tclv_engine.specs.Results.{option, code_text, code_options, carried, error_options};
 ghost use Rattle.tclv_engine.specs.Variables.{assign, is_unbuilt};
 ghost use Rattle.tclv_interp.specs.Interpreters.{state_over, blank, HasNoArrays, variables_of, writes_of, evaluation, as_script, script_at, result_of, options_at, is_stopped, Evaluates, Shows, StopCause, StopsAt};
 
@@ -38,32 +38,18 @@ fn option_of(alloc: Global, key: &str, value: &[u8]) -> Result<Pair, NoMemory>
     })
 }
 
-// The number of a code.
-fn number_of(code: Code) -> i64
-    ensures { whole_text result ≡ code_number code }
-{
-    match code {
-        Code::Ok => 0,
-        Code::Error => 1,
-        Code::Return => 2,
-        Code::Break => 3,
-        Code::Continue => 4,
-        Code::Other(n) => i64::from(n),
-    }
-}
-
 // The number of a code, as a text.
 fn number_text(alloc: Global, code: Code) -> Result<Text, NoMemory>
-    ensures { IfOk result (λ text. text ≡ code_number code) }
+    ensures { IfOk result (λ text. text ≡ code_text code) }
 {
     let mut text = Vec::new(alloc);
-    whole_text(number_of(code), &mut text)?;
+    whole_text(i64::from(code.number()), &mut text)?;
     Ok(Text::new(text))
 }
 
 // The options of a code, which has none of its own.
 fn code_options(alloc: Global, code: Code) -> Result<Options, NoMemory>
-    ensures { IfOk result (λ options. options ≡ code_options (code_number code)) }
+    ensures { IfOk result (λ options. options ≡ code_options (code_text code)) }
 {
     let number = number_text(alloc, code)?;
     let mut options = Options::new(alloc);

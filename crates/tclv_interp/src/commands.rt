@@ -1,9 +1,10 @@
 // The commands of the shell, as the evaluation calls them.
-ghost use Rattle.std.specs.Prelude.{◌≡◌, ◌<◌, ◌≤◌, length};
+ghost use Rattle.std.specs.Prelude.{◌≡◌, ◌<◌, ◌≤◌, length, true};
 ghost use Rattle.tclv_value.specs.Stacks.{top, under};
 ghost use Rattle.tclv_engine.specs.Answers.{AnswersOver, Caused, Leaves, last_of, outer};
 ghost use Rattle.tclv_engine.specs.Plans.{PlanOver, as_plan, concluded};
 ghost use Rattle.tclv_interp.specs.Commands as spec;
+ghost use Rattle.tclv_interp.specs.CommandSteps as steps;
 
 use crate::builtins::{CommandTarget, Tables, resolve};
 use tclv_control::plan_control;
@@ -81,7 +82,7 @@ fn plan<O: Outside>(
 
 // Hands on how a script ended, as the command's outcome.
 fn hand_on(ended: Ended) -> Result<Plan<Behind>, End>
-    ensures { result ≡ spec.handed_on ended }
+    ensures { result ≡ steps.handed_on ended }
 {
     match ended {
         Ended::Ok(kept) => Ok(Plan::Finished(kept)),
@@ -117,6 +118,8 @@ impl Host for Commands {
     type Behind = Behind;
 
     ghost given = { record { plan = spec.plan_of; finish = spec.finish } };
+
+    ghost fits = { λ own told. true };
 
     fn plan<O: Outside>(
         &self,

@@ -1,11 +1,12 @@
 -- What data commands answer that are handed a variable.
-use Rattle.std.proofs.Common.{◌≡◌, ℕ, ◌-◌, ◌<◌, ◌≤◌, List, [], ◌∷◌, ◌++◌, length, take, get_or, length-append, sym, ap, ◌∙◌, refl, subst, arith, Result, Ok, Err, Some, None, true, false, Bool, nat_eq, Option}
+use Rattle.std.proofs.Common.{◌≡◌, ℕ, ◌+◌, ◌-◌, ◌<◌, ◌≤◌, List, [], ◌∷◌, ◌++◌, length, take, get_or, length-append, sym, ap, ◌∙◌, refl, subst, arith, Result, Ok, Err, Some, None, true, false, Bool, nat_eq, Option}
 use Rattle.std.specs.Prelude.{OnOk, IfErr, ◌||◌, codes}
 use Rattle.std.specs.Ordering.{nat_cmp}
 use Rattle.std.specs.Str.{chars}
 use Rattle.std.specs.Option.{unwrap_or}
 use Rattle.std.specs.FinMap.{FinMap, get, insert}
-use Rattle.std.proofs.lemmas.List.{append_assoc, drop_more, drop_all}
+use Rattle.std.proofs.lemmas.List.{append_assoc, drop_more, drop_all, get_or_push}
+use Rattle.std.proofs.Math.ListN.{get_or-append}
 use Rattle.std.proofs.Math.Seq.{take-append_seam}
 use Rattle.std.proofs.lemmas.Option.{none-some}
 use Rattle.std.proofs.lemmas.Str.{chars-nil}
@@ -47,12 +48,13 @@ use Rattle.tclv_engine.specs.Variables.{is_unbuilt, not_built}
 use Rattle.tclv_engine.specs.Usages.{call_word}
 use Rattle.tclv_engine.specs.Operations.{second_of}
 use Rattle.tclv_engine.specs.Answers.{Outer, Runs, start, SameState, PushesResult, KeepsStack, as_result}
-use Rattle.tclv_engine.specs.DataAnswers.{of_answer, BecomesError, EndsRefused, HasReply}
-use Rattle.tclv_plain.specs.CellRows.{seen, variable_seen, unsettable, named, keep, is_of_array, unbuilt, on_variable, cell_row, row_of, Changes}
+use Rattle.tclv_engine.specs.DataAnswers.{of_answer}
+use Rattle.tclv_engine.specs.DataSteps.{BecomesError, EndsRefused, HasReply}
+use Rattle.tclv_plain.specs.CellRows.{seen, variable_seen, named, keep, is_of_array, unbuilt, on_variable, cell_row, row_of}
+use Rattle.tclv_plain.specs.CellSteps.{unsettable, Changes}
 use Rattle.tclv_engine.proofs.Binds.{runs_as, answers_as}
 use Rattle.tclv_engine.proofs.Leaves.{done_runs, raise_runs, raises_as}
 use Rattle.tclv_engine.proofs.StackLemmas.{last-pushed, over_push, take-under}
-use Rattle.tclv_engine.proofs.ExpressionLemmas.{second_over}
 use Rattle.tclv_engine.proofs.HoldingsLemmas.{tied_put}
 use Rattle.tclv_engine.proofs.VariableLemmas.{assign-write}
 use Rattle.tclv_engine.proofs.DataLemmas.{refused_as, refused_stack, results_stack, has_reply, call_is, arguments_are, message_below, code_on_top, under_reply}
@@ -399,8 +401,12 @@ module _ (row : VarAnswer) (k : ℕ) (before after : View) where
 second_is : (base stack : List Text) (message code : Text) → stack ≡ base ++ message ∷ code ∷ [] → second_of stack ≡ message
 second_is base stack message code e =
     let below = base ++ message ∷ [] in
-    second_over below stack (over_push below stack code (e ∙ sym (append_assoc base (message ∷ []) (code ∷ [])))) (omega (arith, length-append base (message ∷ [])))
-    ∙ last-pushed base below message refl
+    let two : stack ≡ below ++ code ∷ [] = e ∙ sym (append_assoc base (message ∷ []) (code ∷ [])) in
+    let many : length stack ≡ length base + 2 = ap length e ∙ length-append base (message ∷ code ∷ []) in
+    let place : length stack - 2 ≡ length base = omega (arith, many) in
+    ap (λ k. get_or stack k []) place ∙ ap (λ s. get_or s (length base) []) two
+    ∙ get_or-append below (code ∷ []) [] (length base) (omega (arith, length-append base (message ∷ [])))
+    ∙ get_or_push base message [] (length base) refl
 
 -- the message of an array, as the code makes it
 pub array_message : (first name : Text) → first ≡ name → text_of CannotReadArray first (chars []) ≡ text_of CannotReadArray name []

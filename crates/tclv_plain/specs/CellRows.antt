@@ -1,5 +1,5 @@
 -- The rows of data commands that are handed a variable: what the answer of such a row does.
-use Rattle.std.specs.Prelude.{◌≡◌, ℕ, ◌++◌, if◌then◌else◌, Bool, List, [], ◌∷◌, Option, None, Some, Result, Ok, Err, OnOk, OnErr, IfErr}
+use Rattle.std.specs.Prelude.{ℕ, if◌then◌else◌, Bool, List, [], ◌∷◌, None, Result, Ok, Err}
 use Rattle.std.specs.Option.{option_map_or}
 use Rattle.std.specs.Str.{bytes_eq}
 use Rattle.std.specs.Ordering.{nat_cmp}
@@ -8,18 +8,12 @@ use Rattle.tclv_vars.specs.declared.places.Place.TheVariants as place
 use Rattle.tclv_vars.specs.declared.faults.VarFault.{VarFault}
 use Rattle.tclv_vars.specs.declared.faults.VarFault.TheVariants as fault
 use Rattle.tclv_vars.specs.Table.{Table, Spot, write}
-use Rattle.tclv_model.specs.declared.data_commands.CmdFault.{CmdFault}
-use Rattle.tclv_model.specs.declared.data_commands.VarState.{VarState}
-use Rattle.tclv_model.specs.declared.data_commands.VarState.TheVariants as var
 use Rattle.tclv_model.specs.declared.messages.MessageId.TheVariants.{CannotReadArray}
 use Rattle.tclv_model.specs.Message.{text_of}
 use Rattle.tclv_model.specs.Rows.{Gives, Refuses, VarAnswer, Variable, Holds, Unset, WholeArray, PlainElement}
-use Rattle.tclv_value.specs.Stacks.{under}
-use Rattle.tclv_reply.specs.Replies as replies
 use Rattle.tclv_lists.specs.Variables.{row_lappend, row_lpop, row_lset}
 use Rattle.tclv_plain.specs.declared.cell_commands.CellCommand.{CellCommand}
 use Rattle.tclv_plain.specs.declared.cell_commands.CellCommand.TheVariants as command
-use Rattle.tclv_engine.specs.Holdings.{Holdings, SameVariables, Sets}
 use Rattle.tclv_engine.specs.State.{Text, State, variables_in, texts_in}
 use Rattle.tclv_engine.specs.Results.{Res, Outcome, bind, ok, error}
 use Rattle.tclv_engine.specs.Names.{bytes_of}
@@ -67,25 +61,3 @@ abbrev pub row_of : CellCommand → Text → List Text → Variable → VarAnswe
 row_of command.Lappend = row_lappend
 row_of command.Lpop = row_lpop
 row_of command.Lset = row_lset
-
--- ---- in the code
-
--- what a command is told of a variable that a write refuses; nothing where memory ran out
-abbrev pub unsettable : VarFault → Option VarState
-unsettable fault.NoMemory = None
-unsettable fault.NotArray = Some var.NotArray
-unsettable f = Some var.IsArray
-
--- The row gives a result, which stands in place of the n words, and the variable of this name is set to the text that it keeps.
-pub record Kept (row : Variable → VarAnswer) (n : ℕ) (name : List ℕ) (old new : Holdings) : Type 0 where
-  pub text : Text
-  pub kept : Text
-  pub given : row (variable_seen name old.vars old.store.cells) ≡ Gives (text, kept)
-  pub stack : new.store.stack ≡ under n old.store.stack ++ text ∷ []
-  pub sets : Sets old new name kept
-
--- What the call of a data command answers on the variable of a name.
-pub record Changes (row : Variable → VarAnswer) (n : ℕ) (name : List ℕ) (old new : Holdings) (result : Result (Unit {0}) CmdFault) : Type 0 where
-  pub keeps : OnOk result (Kept row n name old new)
-  pub refuses : IfErr result (λ kind. replies.IsRefused (row (variable_seen name old.vars old.store.cells)) kind n old.store new.store)
-  pub same : OnErr result (SameVariables old new)

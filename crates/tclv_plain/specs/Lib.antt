@@ -3,6 +3,7 @@ pub mod ChannelRows
 pub mod RunRows
 pub mod DataRows
 pub mod CellRows
+pub mod CellSteps
 pub mod ListRows
 pub mod LoopRows
 pub mod PlainRows

@@ -7,6 +7,7 @@ ghost use Rattle.tclv_value.specs.Stacks.{top, under};
 ghost use Rattle.tclv_model.specs.Rows.{Unset, WholeArray};
 ghost use Rattle.tclv_reply.specs.Replies as replies;
 ghost use Rattle.tclv_plain.specs.CellRows as spec;
+ghost use Rattle.tclv_plain.specs.CellSteps as steps;
 ghost use Rattle.tclv_engine.specs.Holdings.{SameVariables};
 ghost use Rattle.tclv_engine.specs.Names.{bytes_of};
 ghost use Rattle.tclv_engine.specs.Operations.{second_of};
@@ -30,7 +31,7 @@ pub enum CellCommand {
 
 // What a command is told of a variable that a write refuses; nothing where memory ran out.
 fn unsettable(fault: VarFault) -> Option<VarState>
-    ensures { result ≡ spec.unsettable fault }
+    ensures { result ≡ steps.unsettable fault }
 {
     match fault {
         VarFault::NoMemory => None,
@@ -96,7 +97,7 @@ fn change(values: &mut Values, command: CellCommand, n: usize) -> Result<(), Cmd
     requires words { n + 1 ≤ length values.old.store.stack }
     requires some { 0 < n }
     requires made { IsMade values.old.store (At.Stack (length values.old.store.stack - n)) }
-    ensures { spec.Changes (spec.row_of command (replies.call_word n values.old.store.stack) (top n values.old.store.stack)) n (bytes_of (slice_index_or values.old.store.stack (length values.old.store.stack - n) [])) values.old values.new result }
+    ensures { steps.Changes (spec.row_of command (replies.call_word n values.old.store.stack) (top n values.old.store.stack)) n (bytes_of (slice_index_or values.old.store.stack (length values.old.store.stack - n) [])) values.old values.new result }
 {
     let name = At::Stack(values.height() - n);
     match values.cell_at(name) {
@@ -110,7 +111,7 @@ fn change_unset(values: &mut Values, command: CellCommand, n: usize) -> Result<(
     requires words { n + 1 ≤ length values.old.store.stack }
     requires some { 0 < n }
     requires made { IsMade values.old.store (At.Stack (length values.old.store.stack - n)) }
-    ensures { spec.Changes (spec.row_of command (replies.call_word n values.old.store.stack) (top n values.old.store.stack)) n (bytes_of (slice_index_or values.old.store.stack (length values.old.store.stack - n) [])) values.old values.new result }
+    ensures { steps.Changes (spec.row_of command (replies.call_word n values.old.store.stack) (top n values.old.store.stack)) n (bytes_of (slice_index_or values.old.store.stack (length values.old.store.stack - n) [])) values.old values.new result }
 {
     let at = At::Stack(values.height() - n);
     let name = copied(values, at)?;
@@ -127,7 +128,7 @@ fn change_named(
     requires words { n + 1 ≤ length values.old.store.stack }
     requires some { 0 < n }
     requires name { IsText name.now }
-    ensures { spec.Changes (spec.row_of command (replies.call_word n values.old.store.stack) (top n values.old.store.stack)) n name.now values.old values.new result }
+    ensures { steps.Changes (spec.row_of command (replies.call_word n values.old.store.stack) (top n values.old.store.stack)) n name.now values.old values.new result }
 {
     let lacked = values.vars.missing(Place::Frame, name, None);
     match values.vars.write(Place::Frame, name, None) {

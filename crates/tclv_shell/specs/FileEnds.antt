@@ -9,20 +9,12 @@ use Rattle.tclv_model.specs.declared.outcomes.Code.TheVariants.{Ok, Error, Retur
 use Rattle.tclv_model.specs.declared.outcomes.Pair.{Pair}
 use Rattle.tclv_model.specs.declared.messages.MessageId.TheVariants.{BreakOutsideLoop, ContinueOutsideLoop, BadCodeReturned}
 use Rattle.tclv_model.specs.Message.{text_of}
+use Rattle.tclv_model.specs.Codes.{code_number}
 
 -- the number of an option, or another number where it isn't there or is no whole number
 abbrev pub option_number : List ℕ → ℤ → List Pair → ℤ
 option_number key otherwise [] = otherwise
 option_number key otherwise (pair ∷ pairs) = if bytes_eq pair.key key then result_unwrap_or (whole pair.value) otherwise else option_number key otherwise pairs
-
--- the number of a code
-abbrev pub code_number : Code → ℤ
-code_number Ok = pos 0
-code_number Error = pos 1
-code_number Return = pos 2
-code_number Break = pos 3
-code_number Continue = pos 4
-code_number (Other n) = n
 
 -- A level is taken off. A return of level 1 is now the code that it stores; one of another level is still a return.
 abbrev pub after_level : Code → List Pair → ℤ

@@ -5,7 +5,7 @@ ghost use Rattle.std.specs.Str.{IsAscii, chars, encode_utf8_all};
 ghost use Rattle.tclv_text.specs.Texts.{IsText};
 ghost use Rattle.tclv_text.specs.Numbers.{whole_text};
 ghost use Rattle.tclv_model.specs.Message.{text_of};
-ghost use Rattle.tclv_shell.specs.FileEnds.{option_number, code_number, after_level, error_of_number};
+ghost use Rattle.tclv_shell.specs.FileEnds.{option_number, after_level, error_of_number};
 
 use crate::final_messages::message_text;
 use std::alloc::Global;
@@ -26,19 +26,6 @@ fn option_number(options: &[Pair], key: &[u8], otherwise: i64) -> i64
     otherwise
 }
 
-fn code_number(code: Code) -> i64
-    ensures { result ≡ code_number code }
-{
-    match code {
-        Code::Ok => 0,
-        Code::Error => 1,
-        Code::Return => 2,
-        Code::Break => 3,
-        Code::Continue => 4,
-        Code::Other(n) => i64::from(n),
-    }
-}
-
 /// The number of a code once a level is off: a return of level 1 is the code that it stores.
 pub fn after_level(code: Code, options: &Options) -> i64
     ensures { result ≡ after_level code options.now }
@@ -47,7 +34,7 @@ pub fn after_level(code: Code, options: &Options) -> i64
     if code == Code::Return && option_number(options, b"-level", 1) == 1 {
         option_number(options, b"-code", 0)
     } else {
-        code_number(code)
+        i64::from(code.number())
     }
 }
 

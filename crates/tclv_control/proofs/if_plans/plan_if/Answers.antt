@@ -2,7 +2,8 @@ use Rattle.std.proofs.Common.{rules, ap, ◌∙◌, ◌-◌, sym}
 use Rattle.tclv_engine.specs.State.{state_of}
 use Rattle.tclv_engine.proofs.Binds.{runs_as}
 use Rattle.tclv_engine.proofs.Leaves.{memory_runs, value_runs}
-use Rattle.tclv_control.specs.IfRows.{choice, clauses_of}
+use Rattle.tclv_control.specs.IfRows.{choice}
+use Rattle.tclv_control.specs.IfSteps.{clauses_of}
 use Rattle.tclv_control.proofs.IfLemmas.{if_words}
 use Rattle.tclv_control.proofs.if_plans.plan_if.Goals as goal
 

@@ -1,7 +1,8 @@
 use Rattle.std.proofs.Common.{◌∙◌, ◌+◌, ◌<◌, ◌≡◌, ◌∷◌, [], length, sym, subst, arith, List}
 use Rattle.tclv_engine.specs.State.{Text}
 use Rattle.tclv_engine.specs.Plans.{placed, lead_of}
-use Rattle.tclv_control.specs.IfRows.{sought_of, left_of, preceded, leads, behind_test, clauses}
+use Rattle.tclv_control.specs.IfRows.{preceded, leads, behind_test, clauses}
+use Rattle.tclv_control.specs.IfSteps.{sought_of, left_of}
 use Rattle.tclv_control.proofs.IfLemmas.{read_none, read_some}
 use Rattle.tclv_control.proofs.if_plans.read_clause.Goals as goal
 

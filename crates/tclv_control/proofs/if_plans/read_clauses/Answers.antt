@@ -2,7 +2,7 @@ use Rattle.std.proofs.Common.{rules, refl, ap, ◌∙◌, ◌-◌, ◌+◌, ◌<
 use Rattle.tclv_engine.specs.State.{Text}
 use Rattle.tclv_engine.specs.declared.plans.Way.TheVariants as way
 use Rattle.tclv_engine.proofs.WordLemmas.{same_then}
-use Rattle.tclv_control.specs.IfRows.{IsRead, with_left}
+use Rattle.tclv_control.specs.IfSteps.{IsRead, with_left}
 use Rattle.tclv_control.proofs.IfLemmas.{reading_on, read_last, read_end}
 use Rattle.tclv_control.proofs.if_plans.read_clauses.Goals as goal
 

@@ -6,7 +6,7 @@ use Rattle.tclv_value.specs.Stacks.{top}
 use Rattle.tclv_reply.specs.Replies.{call_word}
 use Rattle.tclv_engine.specs.State.{Text, state_of}
 use Rattle.tclv_engine.specs.Answers.{KeepsStack}
-use Rattle.tclv_engine.specs.DataAnswers.{BecomesError}
+use Rattle.tclv_engine.specs.DataSteps.{BecomesError}
 use Rattle.tclv_engine.specs.Operations.{second_of}
 use Rattle.tclv_plain.specs.CellRows.{row_of, unbuilt}
 use Rattle.tclv_engine.proofs.Binds.{runs_as}

@@ -9,6 +9,7 @@ use Rattle.tclv_reply.specs.Replies as replies
 use Rattle.tclv_engine.specs.Holdings.{Holdings}
 use Rattle.tclv_engine.specs.Names.{bytes_of}
 use Rattle.tclv_plain.specs.CellRows as cells
+use Rattle.tclv_plain.specs.CellSteps as steps
 use Rattle.tclv_plain.proofs.CellLemmas.{found, tied_set}
 use Rattle.tclv_plain.proofs.cell_commands.change.Goals as goal
 
@@ -22,7 +23,7 @@ pub returns-in-Ok : goal.returns-in-Ok
 returns-in-Ok c =
     let inside : Holdings = record { store = c.values.inside.store; vars = c.values.inside.vars } in
     let now : Holdings = record { store = c.run_cell.new.store; vars = c.values.inside.vars } in
-    let P : Holdings → Type 0 = λ h. cells.Changes (cells.row_of c.args.command (replies.call_word c.args.n h.store.stack) (top c.args.n h.store.stack)) c.args.n (bytes_of (slice_index_or h.store.stack (length h.store.stack - c.args.n) [])) h now c.run_cell.result in
+    let P : Holdings → Type 0 = λ h. steps.Changes (cells.row_of c.args.command (replies.call_word c.args.n h.store.stack) (top c.args.n h.store.stack)) c.args.n (bytes_of (slice_index_or h.store.stack (length h.store.stack - c.args.n) [])) h now c.run_cell.result in
     let Q : Holdings → Type 0 = λ h. Ok c.in-Ok.cell ≡ read h.vars place.Frame (bytes_of (slice_index_or h.store.stack (length h.store.stack - c.args.n) [])) None in
     let seen = c.in-Ok.ensures.answer ∙ ap (λ k. read c.args.values.now.vars place.Frame (bytes_of (slice_index_or c.args.values.now.store.stack (k - c.args.n) [])) None) c.height.ensures in
     let stack = c.values.inside.store.stack in

@@ -4,6 +4,7 @@ use Rattle.tclv_reply.specs.Replies as replies
 use Rattle.tclv_vars.specs.Table.{has_value}
 use Rattle.tclv_engine.specs.Holdings.{Holdings}
 use Rattle.tclv_plain.specs.CellRows as cells
+use Rattle.tclv_plain.specs.CellSteps as steps
 use Rattle.tclv_engine.proofs.HoldingsLemmas.{tied_put, fresh_write}
 use Rattle.tclv_plain.proofs.CellLemmas.{changed, declined, same_tied, untold, untold_cells, has_name, whole_refused, plain_refused}
 use Rattle.tclv_plain.proofs.cell_commands.change_named.Goals as goal
@@ -32,7 +33,7 @@ invariant_of-values-then-fresh c cell =
 pub returns-in-Ok-run_cell : goal.returns-in-Ok-run_cell
 returns-in-Ok-run_cell c =
     let now : Holdings = record { store = c.run_cell.new.store; vars = c.write.new.self } in
-    let P : Holdings → Type 0 = λ h. cells.Changes (cells.row_of c.args.command (replies.call_word c.args.n h.store.stack) (top c.args.n h.store.stack)) c.args.n c.args.name.now h now (Ok tt) in
+    let P : Holdings → Type 0 = λ h. steps.Changes (cells.row_of c.args.command (replies.call_word c.args.n h.store.stack) (top c.args.n h.store.stack)) c.args.n c.args.name.now h now (Ok tt) in
     subst P c.values.view_is
     (changed (cells.row_of c.args.command (replies.call_word c.args.n c.values.inside.store.stack) (top c.args.n c.values.inside.store.stack)) c.args.n c.args.name.now (record { store = c.values.inside.store; vars = c.values.inside.vars }) now
     (record { cell = c.in-Ok.cell; fresh = c.in-Ok.fresh; after = c.write.new.self }) c.in-Ok.ensures.written refl c.in-Ok-run_cell.ensures.gives)
@@ -41,7 +42,7 @@ pub returns-then-fresh : goal.returns-then-fresh
 returns-then-fresh c =
     let now : Holdings = record { store = c.run_cell.new.store; vars = c.take_back.new.self } in
     let kind = c.in-Err-run_cell.kind in
-    let P : Holdings → Type 0 = λ h. cells.Changes (cells.row_of c.args.command (replies.call_word c.args.n h.store.stack) (top c.args.n h.store.stack)) c.args.n c.args.name.now h now (Err kind) in
+    let P : Holdings → Type 0 = λ h. steps.Changes (cells.row_of c.args.command (replies.call_word c.args.n h.store.stack) (top c.args.n h.store.stack)) c.args.n c.args.name.now h now (Err kind) in
     subst P c.values.view_is
     (declined (cells.row_of c.args.command (replies.call_word c.args.n c.values.inside.store.stack) (top c.args.n c.values.inside.store.stack)) c.args.n c.args.name.now (record { store = c.values.inside.store; vars = c.values.inside.vars }) now
     (record { cell = c.in-Ok.cell; fresh = c.in-Ok.fresh; after = c.write.new.self }) kind c.in-Ok.ensures.written (back c) c.in-Err-run_cell.ensures)
@@ -57,7 +58,7 @@ invariant_of-values-in-Some c cell =
 pub returns-in-Some : goal.returns-in-Some
 returns-in-Some c =
     let now : Holdings = record { store = c.run_cell-in-Some.new.store; vars = c.write.new.self } in
-    let P : Holdings → Type 0 = λ h. cells.Changes (cells.row_of c.args.command (replies.call_word c.args.n h.store.stack) (top c.args.n h.store.stack)) c.args.n c.args.name.now h now c.run_cell-in-Some.result in
+    let P : Holdings → Type 0 = λ h. steps.Changes (cells.row_of c.args.command (replies.call_word c.args.n h.store.stack) (top c.args.n h.store.stack)) c.args.n c.args.name.now h now c.run_cell-in-Some.result in
     let stack = c.values.inside.store.stack in
     subst P c.values.view_is
     (untold (cells.row_of c.args.command (replies.call_word c.args.n stack) (top c.args.n stack)) c.args.n c.args.name.now (record { store = c.values.inside.store; vars = c.values.inside.vars }) now
