@@ -41,11 +41,3 @@ pattern_points = refl
 pub is_default_word : (bs : List ℕ) → IsText bs → bytes_eq bs (codes "default") ≡ bytes_eq (chars bs) (codes "default")
 unfolding chars encode
 is_default_word bs u = same_word bs (codes "default") u refl refl
-
-pub element_points : chars (codes "*(*)") ≡ codes "*(*)"
-unfolding chars
-element_points = refl
-
-pub qualified_points : chars (codes "*::*") ≡ codes "*::*"
-unfolding chars
-qualified_points = refl

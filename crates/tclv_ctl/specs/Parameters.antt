@@ -1,7 +1,7 @@
 -- What `proc` makes of its words: the parameters, from the list of their specifiers, and the body.
 use Rattle.std.specs.Prelude.{◌-◌, Bool, false, if◌then◌else◌, List, [], ◌∷◌, length, take, Option, Some, None, slice_get, codes}
-use Rattle.std.specs.Str.{bytes_eq}
-use Rattle.tclv_text.specs.Globs.{matches}
+use Rattle.std.specs.Str.{bytes_eq, encode_utf8_all}
+use Rattle.tclv_reply.specs.Names.{is_element, is_qualified}
 use Rattle.tclv_model.specs.declared.messages.MessageId.{MessageId}
 use Rattle.tclv_model.specs.declared.messages.MessageId.TheVariants.{TooManyParameterFields, ParameterWithoutName, ParameterIsElement, ParameterIsNotSimple}
 use Rattle.tclv_model.specs.declared.usages.Usage.TheVariants.{Proc}
@@ -12,12 +12,12 @@ use Rattle.tclv_value.specs.declared.procedures.Param.{Param}
 use Rattle.tclv_value.specs.Procedures.{Procedure}
 use Rattle.tclv_ctl.specs.Switching.{Text}
 
--- Why a parameter can't have this name, if so: it is empty, it has a `(` and ends in `)`, or it holds `::`.
+-- Why a parameter can't have this name, if so: it is empty, it is that of an element, or it is qualified.
 abbrev pub name_flaw : Text → Option MessageId
 name_flaw name =
     if bytes_eq name (codes "") then Some ParameterWithoutName
-    else (if matches false (codes "*(*)") name then Some ParameterIsElement
-    else (if matches false (codes "*::*") name then Some ParameterIsNotSimple
+    else (if is_element (encode_utf8_all name) then Some ParameterIsElement
+    else (if is_qualified (encode_utf8_all name) then Some ParameterIsNotSimple
     else None))
 
 abbrev pub unless_flawed : Option MessageId → Text → Option Text → Answer Param

@@ -1,12 +1,12 @@
 // The words of `proc`: its parameters and its body.
 ghost use Rattle.std.specs.Prelude.{◌≡◌, ◌+◌, ◌-◌, ◌<◌, ◌≤◌, [], ◌∷◌, ◌++◌, false, length, take, drop, codes, OnOk, IfOk, slice_index_or};
-ghost use Rattle.std.specs.Str.{chars};
+ghost use Rattle.std.specs.Str.{chars, encode_utf8_all};
 ghost use Rattle.tclv_text.specs.Texts.{IsText};
-ghost use Rattle.tclv_text.specs.Globs.{matches};
 ghost use Rattle.tclv_model.specs.Rows.{and_then};
 ghost use Rattle.tclv_model.specs.Values.{list_of};
 ghost use Rattle.tclv_value.specs.Changes.{KeepsTexts};
 ghost use Rattle.tclv_value.specs.Stacks.{top};
+ghost use Rattle.tclv_reply.specs.Names.{is_element, is_qualified};
 ghost use Rattle.tclv_reply.specs.Replies.{Reads, call_word};
 ghost use Rattle.tclv_ctl.specs.Steps.{Finds, Understands};
 ghost use Rattle.tclv_ctl.specs.Parameters.{name_flaw, named, fields, parameter, parameters, ends_in_args, procedure, proc_of};
@@ -14,25 +14,26 @@ ghost use Rattle.tclv_ctl.specs.Parameters.{name_flaw, named, fields, parameter,
 use std::rc::Rc;
 use tclv_model::{CmdFault, MessageId, Usage};
 use tclv_reply::{
-    copy_of, cut, elements_of, push_elements, refuse, refuse_count, refuse_on, settle_refusal,
+    copy_of, cut, elements_of, is_element, is_qualified, push_elements, refuse, refuse_count,
+    refuse_on, settle_refusal,
 };
-use tclv_text::{NoMemory, Text, glob_match, is_ascii_word};
+use tclv_text::{NoMemory, Text, is_ascii_word};
 use tclv_value::{At, Param, ProcDef, Store};
 
-// Whether a name has a `(` and ends in `)`.
-fn is_element(name: &[u8]) -> bool
+// Whether a name is that of an element of an array.
+fn names_element(name: &[u8]) -> bool
     requires { IsText name.now }
-    ensures { result ≡ matches false (codes "*(*)") (chars name.now) }
+    ensures { result ≡ is_element (encode_utf8_all (chars name.now)) }
 {
-    glob_match(b"*(*)", name, false)
+    is_element(name)
 }
 
 // Whether a name holds `::`.
-fn is_qualified(name: &[u8]) -> bool
+fn names_qualified(name: &[u8]) -> bool
     requires { IsText name.now }
-    ensures { result ≡ matches false (codes "*::*") (chars name.now) }
+    ensures { result ≡ is_qualified (encode_utf8_all (chars name.now)) }
 {
-    glob_match(b"*::*", name, false)
+    is_qualified(name)
 }
 
 // Why a parameter can't have this name.
@@ -42,9 +43,9 @@ fn name_flaw(name: &[u8]) -> Option<MessageId>
 {
     if is_ascii_word(name, b"") {
         Some(MessageId::ParameterWithoutName)
-    } else if is_element(name) {
+    } else if names_element(name) {
         Some(MessageId::ParameterIsElement)
-    } else if is_qualified(name) {
+    } else if names_qualified(name) {
         Some(MessageId::ParameterIsNotSimple)
     } else {
         None

@@ -62,7 +62,8 @@ pub fn make(
     name: &str,
     mode: Mode,
 ) -> Result<(), NoMemory>
-    ensures ok { OnOk result ((o : Out) → record o { files = files_of files.new.items } ≡ made mode name.now (record o { files = files_of files.old.items })) }
+    ensures ok { OnOk result ((o : Out) → record o { files = files_of files.new.items }
+        ≡ made mode name.now (record o { files = files_of files.old.items })) }
     ensures err { OnErr result (files_of files.new.items ≡ files_of files.old.items) }
 {
     match mode {
@@ -77,7 +78,8 @@ pub fn make(
 
 /// Adds a piece at the end of a file; where it isn't there, nothing happens.
 pub fn append(files: &mut Vec<(String, Vec<u8>)>, name: &str, piece: &[u8]) -> Result<(), NoMemory>
-    ensures ok { OnOk result ((o : Out) → record o { files = files_of files.new.items } ≡ add (record o { files = files_of files.old.items }) (File name.now) piece.now) }
+    ensures ok { OnOk result ((o : Out) → record o { files = files_of files.new.items }
+        ≡ add (record o { files = files_of files.old.items }) (File name.now) piece.now) }
     ensures err { OnErr result (files_of files.new.items ≡ files_of files.old.items) }
 {
     if let Some(place) = place_of(files, name) {

@@ -12,10 +12,28 @@ ghost use Rattle.tclv_model.specs.Usages.{usage_of};
 pub enum Usage {
     /// `append varName ?value ...?`
     Append,
+    /// `array subcommand ?arg ...?`
+    Array,
+    /// `array exists arrayName`
+    ArrayExists,
+    /// `array get arrayName ?pattern?`
+    ArrayGet,
+    /// `array names arrayName ?pattern?`
+    ArrayNames,
+    /// `array set arrayName list`
+    ArraySet,
+    /// `array size arrayName`
+    ArraySize,
+    /// `array unset arrayName ?pattern?`
+    ArrayUnset,
     /// `break`
     Break,
+    /// `catch script ?resultVarName? ?optionsVarName?`
+    Catch,
     /// `continue`
     Continue,
+    /// `error message ?errorInfo? ?errorCode?`
+    Error,
     /// `eval arg ?arg ...?`
     Eval,
     /// `exit ?returnCode?`
@@ -28,6 +46,20 @@ pub enum Usage {
     Foreach,
     /// `incr varName ?increment?`
     Incr,
+    /// `info subcommand ?arg ...?`
+    Info,
+    /// `info args procName`
+    InfoArgs,
+    /// `info body procName`
+    InfoBody,
+    /// `info complete command`
+    InfoComplete,
+    /// `info default procName arg varName`
+    InfoDefault,
+    /// `info exists varName`
+    InfoExists,
+    /// `info level`
+    InfoLevel,
     /// `join list ?joinString?`
     Join,
     /// `lappend varName ?value ...?`
@@ -72,8 +104,14 @@ pub enum Usage {
     Split,
     /// `switch ?option ...? string ?pattern body ...? ?default body?`
     Switch,
+    /// `throw type message`
+    Throw,
     /// `try body ?handler ...? ?finally script?`
     Try,
+    /// `uplevel ?level? command ?arg ...?`
+    Uplevel,
+    /// `upvar ?level? otherVar localVar ?otherVar localVar ...?`
+    Upvar,
     /// `while test command`
     While,
 }
@@ -84,14 +122,30 @@ fn usage_line(usage: Usage) -> &'static str
 {
     match usage {
         Usage::Append => " varName ?value ...?",
+        Usage::Array => " subcommand ?arg ...?",
+        Usage::ArrayExists => " exists arrayName",
+        Usage::ArrayGet => " get arrayName ?pattern?",
+        Usage::ArrayNames => " names arrayName ?pattern?",
+        Usage::ArraySet => " set arrayName list",
+        Usage::ArraySize => " size arrayName",
+        Usage::ArrayUnset => " unset arrayName ?pattern?",
         Usage::Break => "",
+        Usage::Catch => " script ?resultVarName? ?optionsVarName?",
         Usage::Continue => "",
+        Usage::Error => " message ?errorInfo? ?errorCode?",
         Usage::Eval => " arg ?arg ...?",
         Usage::Exit => " ?returnCode?",
         Usage::Expr => " arg ?arg ...?",
         Usage::For => " start test next command",
         Usage::Foreach => " varList list ?varList list ...? command",
         Usage::Incr => " varName ?increment?",
+        Usage::Info => " subcommand ?arg ...?",
+        Usage::InfoArgs => " args procName",
+        Usage::InfoBody => " body procName",
+        Usage::InfoComplete => " complete command",
+        Usage::InfoDefault => " default procName arg varName",
+        Usage::InfoExists => " exists varName",
+        Usage::InfoLevel => " level",
         Usage::Join => " list ?joinString?",
         Usage::Lappend => " varName ?value ...?",
         Usage::Lassign => " list ?varName ...?",
@@ -114,7 +168,10 @@ fn usage_line(usage: Usage) -> &'static str
         Usage::Set => " varName ?newValue?",
         Usage::Split => " string ?splitChars?",
         Usage::Switch => " ?option ...? string ?pattern body ...? ?default body?",
+        Usage::Throw => " type message",
         Usage::Try => " body ?handler ...? ?finally script?",
+        Usage::Uplevel => " ?level? command ?arg ...?",
+        Usage::Upvar => " ?level? otherVar localVar ?otherVar localVar ...?",
         Usage::While => " test command",
     }
 }

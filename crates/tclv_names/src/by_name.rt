@@ -28,15 +28,6 @@ impl<X: Copy> Names<X> {
     ghost use Rattle.std.specs.Prelude.{◌≡◌, ◌<◌, map as mapped, Some, OnOk, OnErr, IfOk, IfSome, IfNone};
     ghost use Rattle.std.specs.FinMap as map;
 
-    /// A table without names.
-    pub fn new(alloc: Global) -> Self
-        ensures empty { result ≡ map.empty }
-    {
-        Names {
-            table: IndexMap::new(alloc),
-        }
-    }
-
     /// What the name has, `None` exactly where it isn't there.
     pub fn get(&self, name: &[u8]) -> Option<X>
         ensures value { result ≡ map.get self.now name.now }
@@ -45,20 +36,6 @@ impl<X: Copy> Names<X> {
             Some(x) => Some(*x),
             None => None,
         }
-    }
-
-    /// Gives the name `x`, in place of what it had. After `NoMemory` the table is as before.
-    pub fn put(&mut self, alloc: Global, name: &[u8], x: X) -> Result<(), NoMemory>
-        ensures put { OnOk result (self.new ≡ map.insert self.old name.now x) }
-        ensures refused { OnErr result (self.new ≡ self.old) }
-    {
-        let Ok(key) = Vec::from_slice(alloc, name) else {
-            return Err(NoMemory);
-        };
-        let Ok(_) = self.table.insert(key, x) else {
-            return Err(NoMemory);
-        };
-        Ok(())
     }
 
     /// Takes the name out. Where it isn't there nothing changes.
@@ -93,6 +70,45 @@ impl<X: Copy> Names<X> {
         }
         names.sort_unstable();
         Ok(names)
+    }
+}
+
+impl<X> Names<X> {
+    ghost use Rattle.std.specs.Prelude.{◌≡◌, OnOk, OnErr};
+    ghost use Rattle.std.specs.FinMap as map;
+    ghost use Rattle.std.specs.Option.{option_copied};
+
+    /// A table without names.
+    pub fn new(alloc: Global) -> Self
+        ensures empty { result ≡ map.empty }
+    {
+        Names {
+            table: IndexMap::new(alloc),
+        }
+    }
+
+    /// Lends what the name has, `None` exactly where it isn't there.
+    pub fn lend(&self, name: &[u8]) -> Option<&X>
+        ensures value { option_copied result ≡ map.get self.now name.now }
+    {
+        self.table.get(name)
+    }
+
+    /// Gives the name `x`, in place of what it had, which is dropped. After `NoMemory` the table is as
+    /// before.
+    pub fn put(&mut self, alloc: Global, name: &[u8], x: X) -> Result<(), NoMemory>
+    where
+        X: Drop,
+        ensures put { OnOk result (self.new ≡ map.insert self.old name.now x) }
+        ensures refused { OnErr result (self.new ≡ self.old) }
+    {
+        let Ok(key) = Vec::from_slice(alloc, name) else {
+            return Err(NoMemory);
+        };
+        let Ok(_) = self.table.insert(key, x) else {
+            return Err(NoMemory);
+        };
+        Ok(())
     }
 }
 

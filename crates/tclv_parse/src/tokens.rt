@@ -107,7 +107,8 @@ impl<'a> Place<'a> {
         requires within { spec.IsWithin self.old }
         requires room { level + length self.old.cursor < 2 ^ 63 }
         ensures within { spec.IsWithin self.new }
-        ensures taken { spec.Takes self.old result self.new PieceKind.Literal (run_len (Run.Braced level) self.old.cursor) (spec.mode_behind level self.old.cursor) }
+        ensures taken { spec.Takes self.old result self.new PieceKind.Literal (run_len (Run.Braced level) self.old.cursor)
+            (spec.mode_behind level self.old.cursor) }
     {
         let (text, end) = take_run(&mut self.cursor, Run::Braced(level));
         self.mode = Mode::Braced(level_of(end));

@@ -1,5 +1,6 @@
 mod StackLemmas
 mod ReplyLemmas
+mod NameLemmas
 mod TextLemmas
 mod ShownLemmas
 mod WordLemmas

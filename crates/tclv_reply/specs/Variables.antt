@@ -1,6 +1,5 @@
 -- The variable that a command is handed: its text, and its refusals.
-use Rattle.std.specs.Prelude.{◌≡◌, ℕ, ◌-◌, Bool, ◌&&◌, ◌==◌, if◌then◌else◌, List, [], length, slice_index, Option, Some, None, is_some, encode_utf8_all}
-use Rattle.std.specs.List.{list_any}
+use Rattle.std.specs.Prelude.{◌≡◌, ℕ, Bool, if◌then◌else◌, List, [], Option, Some, None, is_some, encode_utf8_all}
 use Rattle.std.specs.Ordering.{nat_cmp}
 use Rattle.std.specs.FinMap.{FinMap, get}
 use Rattle.tclv_model.specs.declared.data_commands.CmdFault.TheVariants.{Message}
@@ -10,15 +9,10 @@ use Rattle.tclv_model.specs.declared.error_codes.ErrorCode.TheVariants.{UnknownV
 use Rattle.tclv_model.specs.declared.messages.MessageId.TheVariants.{NoSuchVariable, NoSuchElement, CannotReadArray, CannotReadNonArray, NoParentNamespace}
 use Rattle.tclv_model.specs.ErrorCodes.{error_code}
 use Rattle.tclv_model.specs.Message.{text_of}
+use Rattle.tclv_reply.specs.Names.{is_element}
 use Rattle.tclv_model.specs.Rows.{Answer, VarAnswer, Gives, Refuses, Variable, Holds, Unset, WholeArray, PlainElement, Homeless, and_then, says}
 
--- a name of an element, by its UTF-8 bytes: it ends in `)` and has a `(`
-abbrev pub has_open : List ℕ → Bool
-has_open bytes = list_any (λ b. b == 40) bytes
-
-abbrev pub is_element : List ℕ → Bool
-is_element bytes = (slice_index bytes (length bytes - 1) == 41) && has_open bytes
-
+-- a name of an element
 abbrev pub is_element_name : List ℕ → Bool
 is_element_name name = is_element (encode_utf8_all name)
 

@@ -17,6 +17,7 @@
 
 mod comparing;
 mod elements;
+mod names;
 mod numbers;
 mod options;
 mod replies;
@@ -26,6 +27,7 @@ mod words;
 
 pub use comparing::{Matching, fits_pattern};
 pub use elements::{Elements, elements_of, push_elements};
+pub use names::{NameShape, is_element, is_qualified, open_of};
 pub use numbers::{
     check_index, clipped_behind, clipped_place, is_index, place_among, place_inside, place_of,
     place_within, whole_of,

@@ -9,8 +9,9 @@ ghost use Rattle.tclv_value.specs.ListObjects.{KeepsCells};
 ghost use Rattle.tclv_value.specs.declared.places.At.TheVariants.{Stack, Cell};
 ghost use Rattle.tclv_model.specs.declared.data_commands.CmdFault.TheVariants.{Message};
 ghost use Rattle.tclv_reply.specs.Replies.{Grows, Refused, Tells, Reads, HasName, variable_of};
-ghost use Rattle.tclv_reply.specs.Variables.{value_of, IsVariable, has_open, is_element, is_element_name, not_set, text_of_set, IsSet};
+ghost use Rattle.tclv_reply.specs.Variables.{value_of, IsVariable, is_element_name, not_set, text_of_set, IsSet};
 
+use crate::names::is_element;
 use crate::replies::{push_bytes, push_message_on, refuse_on};
 use crate::words::{make_word, word_at};
 use tclv_model::{CmdFault, ErrorCode, MessageId, VarState, code_text};
@@ -35,23 +36,6 @@ pub fn read_variable(
         VarState::IsArray => Err(refuse_on(store, MessageId::CannotReadArray, name, "NONE")),
         VarState::NotArray => Err(refuse_on(store, MessageId::CannotReadNonArray, name, "NONE")),
         VarState::NoParent => Err(refuse_on(store, MessageId::NoParentNamespace, name, "NONE")),
-    }
-}
-
-// Whether a name has a `(`.
-fn has_open(name: &[u8]) -> bool
-    ensures { result ≡ has_open name.now }
-{
-    name.iter().any(|b| *b == b'(')
-}
-
-// Whether a name is that of an element.
-fn is_element(name: &[u8]) -> bool
-    ensures { result ≡ is_element name.now }
-{
-    match name.last() {
-        Some(b')') => has_open(name),
-        _ => false,
     }
 }
 

@@ -71,7 +71,8 @@ fn range_member(low: char, behind: &[u8], c: char, nocase: bool) -> Option<(bool
     requires text { IsText behind.now }
     requires open { low ≢ 93 }
     ensures none { IfNone result (None ≡ range_end (points nocase behind.now)) }
-    ensures has { IfSome result (λ r. is_member c (take_while is_open (low ∷ points nocase behind.now)) ≡ (r.0 || is_member c (take_while is_open (points nocase r.1.now)))) }
+    ensures has { IfSome result (λ r. is_member c (take_while is_open (low ∷ points nocase behind.now))
+        ≡ (r.0 || is_member c (take_while is_open (points nocase r.1.now)))) }
     ensures rest { IfSome result (λ r. behind_set (low ∷ points nocase behind.now) ≡ behind_set (points nocase r.1.now)) }
     ensures text { IfSome result (λ r. IsText r.1.now) }
     ensures shorter { IfSome result (λ r. length r.1.now < length behind.now) }
@@ -85,7 +86,8 @@ fn range_member(low: char, behind: &[u8], c: char, nocase: bool) -> Option<(bool
 fn member(set: &[u8], c: char, nocase: bool) -> Option<(bool, &[u8])>
     requires { IsText set.now }
     ensures none { IfNone result (take_while is_open (points nocase set.now) ≡ []) }
-    ensures has { IfSome result (λ r. is_member c (take_while is_open (points nocase set.now)) ≡ (r.0 || is_member c (take_while is_open (points nocase r.1.now)))) }
+    ensures has { IfSome result (λ r. is_member c (take_while is_open (points nocase set.now))
+        ≡ (r.0 || is_member c (take_while is_open (points nocase r.1.now)))) }
     ensures rest { IfSome result (λ r. behind_set (points nocase set.now) ≡ behind_set (points nocase r.1.now)) }
     ensures text { IfSome result (λ r. IsText r.1.now) }
     ensures shorter { IfSome result (λ r. length r.1.now < length set.now) }

@@ -1,5 +1,5 @@
 use Rattle.std.proofs.Common.{◌∙◌, [], get_or, ap, sym}
-use Rattle.tclv_reply.specs.Variables.{is_element}
+use Rattle.tclv_reply.specs.Names.{is_element}
 use Rattle.tclv_reply.proofs.TextLemmas.{bytes_are}
 use Rattle.tclv_reply.proofs.variables.names_element.Goals as goal
 

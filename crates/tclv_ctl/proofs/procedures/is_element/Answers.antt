@@ -1,8 +1,0 @@
-use Rattle.std.proofs.Common.{◌∙◌, ap, ℕ, List, false}
-use Rattle.std.specs.Str.{chars}
-use Rattle.tclv_text.specs.Globs.{matches}
-use Rattle.tclv_ctl.proofs.TextLemmas.{element_points}
-use Rattle.tclv_ctl.proofs.procedures.is_element.Goals as goal
-
-pub returns : goal.returns
-returns c = c.glob_match.ensures ∙ ap (λ (p : List ℕ). matches false p (chars c.args.name.now)) element_points
