@@ -33,7 +33,7 @@ use Rattle.tclv_reply.proofs.Laws.{grows_trans, grows_pushed, refused_on, refuse
 use Rattle.tclv_lists.proofs.StoredLemmas.{stores_refused}
 
 -- a step that went well, and what followed it
-came_through : {A B : Type 0} (r : Result A PathFlaw) (f : A → Result B PathFlaw) (z : B) → then_path r f ≡ Ok z → (a : A) × ((r ≡ Ok a) × (f a ≡ Ok z))
+pub came_through : {A B : Type 0} (r : Result A PathFlaw) (f : A → Result B PathFlaw) (z : B) → then_path r f ≡ Ok z → (a : A) × ((r ≡ Ok a) × (f a ≡ Ok z))
 came_through (Ok a) f z e = (a, (refl, e))
 came_through (Err flaw) f z e = absurd (cc)
 
@@ -134,7 +134,7 @@ module _ (t i j : List ℕ) (old one two new : View) (len k : ℕ) (read : Reads
       reached (grows_trans two mid new (record { more = []; stack = same ∙ sym (append-nil two.stack); cells = cells; stays = stays }) (grows_pushed mid new [] more)) top
 
 -- a result of which something is known
-ok_and : {A E : Type 0} (r : Result A E) (P : A → Type 0) → IsOkAnd r P → (z : A) × ((r ≡ Ok z) × P z)
+pub ok_and : {A E : Type 0} (r : Result A E) (P : A → Type 0) → IsOkAnd r P → (z : A) × ((r ≡ Ok z) × P z)
 ok_and (Ok z) P h = (z, (refl, h))
 ok_and (Err e) P h = absurd h
 

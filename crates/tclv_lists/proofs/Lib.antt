@@ -4,6 +4,7 @@ pub mod VariableLemmas
 pub mod MakingLemmas
 pub mod PathLemmas
 pub mod AlongLemmas
+pub mod AtOnceLemmas
 pub mod StoredLemmas
 pub mod SequenceLemmas
 pub mod TrimLemmas

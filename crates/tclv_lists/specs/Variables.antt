@@ -12,8 +12,9 @@ use Rattle.tclv_model.specs.Usages.{usage_of}
 use Rattle.tclv_model.specs.Rows.{Answer, VarAnswer, Gives, Variable, and_then, wrong_count}
 use Rattle.tclv_model.specs.Values.{list_of, place_of}
 use Rattle.tclv_value.specs.Lists.{replaced}
-use Rattle.tclv_value.specs.View.{View}
+use Rattle.tclv_value.specs.View.{View, id_of}
 use Rattle.tclv_value.specs.ListObjects.{AppendsTop}
+use Rattle.tclv_value.specs.SetObjects.{IsOpenAt}
 use Rattle.tclv_value.specs.declared.places.At.TheVariants.{Cell}
 use Rattle.tclv_reply.specs.Replies.{Grows, EndsIn, Refused, cells_with}
 use Rattle.tclv_lists.specs.Paths.{path_of, checked, put_along}
@@ -39,10 +40,19 @@ row_lappend call [] v = wrong_count call (usage_of command.Lappend)
 row_lappend call (name ∷ values) v =
     and_then (value_of name v) (λ old. let t = unwrap_or old [] in and_then (list_of t) (λ ts. both (appended t values ts)))
 
--- Where the variable has a value, the object behind it becomes what adding the top text to its list makes of it.
-unfoldable pub Appends : VarState → View → View → Type 0
-Appends (var.Cell cell) old new = IsSome (get old.cells cell) → AppendsTop old (Cell cell) new
-Appends _ old new = Unit {0}
+-- Where the variable has a value, the object behind it becomes what adding the top n texts to its list makes of it.
+unfoldable pub Appends : VarState → View → ℕ → View → Type 0
+Appends (var.Cell cell) old n new = IsSome (get old.cells cell) → AppendsTop old (Cell cell) n new
+Appends _ old n new = Unit {0}
+
+-- Along a path of so many indices that is open in the list of a cell, the same object stands behind the cell, and no counter rose.
+unfoldable pub SetsOpen : View → ℕ → ℕ → View → Type 0
+SetsOpen old cell path new = IsOpenAt old (Cell cell) path → (id_of new (Cell cell) ≡ id_of old (Cell cell)) × (new.stats ≡ old.stats)
+
+-- the same where a variable has a value
+unfoldable pub Sets : VarState → View → ℕ → View → Type 0
+Sets (var.Cell cell) old path new = IsSome (get old.cells cell) → SetsOpen old cell path new
+Sets _ old path new = Unit {0}
 
 -- `lset varName ?index ...? newValue`: the value at the end of the path; without an index it is the whole
 abbrev pub lset_of : List ℕ → List (List ℕ) → List ℕ → Variable → VarAnswer

@@ -1,5 +1,5 @@
 // The commands that change one element of a list in a variable.
-ghost use Rattle.std.specs.Prelude.{◌≡◌, ℕ, List, ◌+◌, ◌-◌, ◌<◌, ◌≤◌, [], ◌∷◌, ◌++◌, length, take, drop, OnOk, OnErr, IfOk, IfErr, codes, slice_index_or};
+ghost use Rattle.std.specs.Prelude.{◌≡◌, ℕ, List, ◌+◌, ◌-◌, ◌<◌, ◌≤◌, [], ◌∷◌, ◌++◌, length, take, drop, OnOk, OnErr, IfOk, IfErr, IfSome, IfNone, IsTrue, codes, slice_index_or};
 ghost use Rattle.std.specs.Result.{ForOk};
 ghost use Rattle.tclv_text.specs.Elements.{elements};
 ghost use Rattle.tclv_model.specs.Rows.{and_then};
@@ -9,10 +9,11 @@ ghost use Rattle.tclv_value.specs.Stacks.{top};
 ghost use Rattle.tclv_value.specs.Changes.{KeepsTexts, Pushes};
 ghost use Rattle.tclv_value.specs.View.{HasPlace, text_at};
 ghost use Rattle.tclv_value.specs.declared.places.At.TheVariants.{Stack, Cell};
-ghost use Rattle.tclv_reply.specs.Replies.{call_word, Grows, Refused, Reads, HasName, variable_of, VarAnswers};
+ghost use Rattle.tclv_value.specs.SetObjects.{IsOpenAt};
+ghost use Rattle.tclv_reply.specs.Replies.{call_word, Grows, Refused, Reads, HasName, variable_of, Changes, VarAnswers};
 ghost use Rattle.tclv_lists.specs.Paths.{path_of, forms_of, put_along, Reaches};
 ghost use Rattle.tclv_reply.specs.Variables.{both};
-ghost use Rattle.tclv_lists.specs.Variables.{taken, place_in, IsPlaceIn, IsStored, Stores, lset_of, row_lset, lpop_of, row_lpop};
+ghost use Rattle.tclv_lists.specs.Variables.{taken, place_in, IsPlaceIn, IsStored, Stores, SetsOpen, Sets, lset_of, row_lset, lpop_of, row_lpop};
 
 use crate::paths::read_path;
 use tclv_model::{CmdFault, Usage, VarState};
@@ -210,21 +211,42 @@ fn set_value(
     }
 }
 
-/// `lset varName ?index ...? newValue`: puts the value at the end of the path of the indices in the variable,
-/// whose text is the result; without an index it is the whole text. One word that is no index and is a list
-/// stands for its elements. An index that is the length of its list appends, at each level. Refuses an index of no
-/// form, then a variable that isn't set or can't be used as a value, and then, at the first list from the outer
-/// one on where there is a cause, a text that is no list and an index out of range. After a refusal the variable is
-/// as it was. (Tcl: lset(n).)
-pub fn cmd_lset(store: &mut Store, variable: VarState, n: usize) -> Result<(), CmdFault>
+// Puts the last of n words at the end of the path of those between the first and it, which are taken as
+// indices, in the list of a cell. Says whether they are such a path.
+fn set_at_once(store: &mut Store, cell: u64, n: usize) -> Result<bool, NoMemory>
+    requires cell { HasPlace store.old (Cell cell) }
+    requires words { 2 < n }
+    requires height { n ≤ length store.old.stack }
+    ensures set { IfOk result (λ done. IsTrue done → Changes (lset_of
+        (slice_index_or store.old.stack (length store.old.stack - n) [])
+        (path_of (take (n - 2) (top (n - 1) store.old.stack)))
+        (slice_index_or store.old.stack (length store.old.stack - 1) [])
+        (variable_of (var.Cell cell) store.old)) (var.Cell cell) n store.old store.new) }
+    ensures object { IfOk result (λ done. IsTrue done → SetsOpen store.old cell (n - 2) store.new) }
+    ensures shut { IfOk result (λ done. (IsTrue done → ⊥) → IsOpenAt store.old (Cell cell) (n - 2) → ⊥) }
+    ensures kept { IfOk result (λ done. (IsTrue done → ⊥) → KeepsTexts store.old store.new) }
+    ensures memory { OnErr result (KeepsTexts store.old store.new) }
+{
+    match store.list_set(At::Cell(cell), n - 2) {
+        Ok(()) => {
+            give_text(store, 1, cell);
+            Ok(true)
+        }
+        Err(ValueFault::NotList(_why)) => Ok(false),
+        Err(ValueFault::BadIndex) => Ok(false),
+        Err(ValueFault::OutOfRange(_level)) => Ok(false),
+        Err(_) => Err(NoMemory),
+    }
+}
+
+// Ends `lset`: step by step.
+fn set_by_steps(store: &mut Store, variable: VarState, n: usize) -> Result<(), CmdFault>
+    requires some { 2 ≤ n }
     requires words { n + 1 ≤ length store.old.stack }
     requires named { HasName variable n }
     ensures { VarAnswers (row_lset (call_word n store.old.stack) (top n store.old.stack)
         (variable_of variable store.old)) variable n store.old store.new result }
 {
-    if n < 2 {
-        return refuse_words(store, n, Usage::Lset);
-    }
     let height = store.height();
     let done = set_value(
         store,
@@ -235,6 +257,70 @@ pub fn cmd_lset(store: &mut Store, variable: VarState, n: usize) -> Result<(), C
         height - 1,
     );
     settle(store, n, height, done)
+}
+
+// Ends `lset` where the variable is set: its words are tried as indices first.
+fn set_in_cell(store: &mut Store, cell: u64, n: usize) -> Result<(), CmdFault>
+    requires cell { HasPlace store.old (Cell cell) }
+    requires some { 2 < n }
+    requires words { n + 1 ≤ length store.old.stack }
+    ensures answer { VarAnswers (row_lset (call_word n store.old.stack) (top n store.old.stack)
+        (variable_of (var.Cell cell) store.old)) (var.Cell cell) n store.old store.new result }
+    ensures object { OnOk result (SetsOpen store.old cell (n - 2) store.new) }
+{
+    match set_at_once(store, cell, n) {
+        Ok(true) => Ok(()),
+        Ok(false) => set_by_steps(store, VarState::Cell(cell), n),
+        Err(_) => Err(CmdFault::NoMemory),
+    }
+}
+
+// The cell of a variable, where it has a value.
+fn cell_of(store: &Store, variable: VarState) -> Option<u64>
+    ensures some { IfSome result (λ cell. (variable ≡ var.Cell cell) × HasPlace store.now (Cell cell)) }
+    ensures none { IfNone result ((cell : ℕ) → variable ≡ var.Cell cell → HasPlace store.now (Cell cell) → ⊥) }
+{
+    match variable {
+        VarState::Cell(cell) => {
+            if store.has_cell(cell) {
+                Some(cell)
+            } else {
+                None
+            }
+        }
+        VarState::NoName => None,
+        VarState::IsArray => None,
+        VarState::NotArray => None,
+        VarState::NoParent => None,
+    }
+}
+
+/// `lset varName ?index ...? newValue`: puts the value at the end of the path of the indices in the variable,
+/// whose text is the result; without an index it is the whole text. One word that is no index and is a list
+/// stands for its elements. An index that is the length of its list appends, at each level. Refuses an index of no
+/// form, then a variable that isn't set or can't be used as a value, and then, at the first list from the outer
+/// one on where there is a cause, a text that is no list and an index out of range. After a refusal the variable is
+/// as it was. (Tcl: lset(n).)
+///
+/// Where the words are indices along a path that is open in the variable's list, its object stays and no
+/// counter rises.
+pub fn cmd_lset(store: &mut Store, variable: VarState, n: usize) -> Result<(), CmdFault>
+    requires words { n + 1 ≤ length store.old.stack }
+    requires named { HasName variable n }
+    ensures answer { VarAnswers (row_lset (call_word n store.old.stack) (top n store.old.stack)
+        (variable_of variable store.old)) variable n store.old store.new result }
+    ensures object { OnOk result (2 < n → Sets variable store.old (n - 2) store.new) }
+{
+    if n < 2 {
+        return refuse_words(store, n, Usage::Lset);
+    }
+    if n == 2 {
+        return set_by_steps(store, variable, n);
+    }
+    match cell_of(store, variable) {
+        Some(cell) => set_in_cell(store, cell, n),
+        None => set_by_steps(store, variable, n),
+    }
 }
 
 // The cell of a variable that is set, and the place of an element of its list, which an index names.

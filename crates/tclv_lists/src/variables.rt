@@ -8,10 +8,10 @@ ghost use Rattle.tclv_model.specs.declared.data_commands.VarState.TheVariants as
 ghost use Rattle.tclv_value.specs.Stacks.{top};
 ghost use Rattle.tclv_value.specs.View.{HasPlace, text_at};
 ghost use Rattle.tclv_value.specs.declared.places.At.TheVariants.{Cell};
-ghost use Rattle.tclv_reply.specs.Replies.{call_word, Grows, HasName, variable_of, VarAnswers};
+ghost use Rattle.tclv_reply.specs.Replies.{call_word, Grows, Reads, HasName, variable_of, VarAnswers};
 ghost use Rattle.tclv_reply.specs.Variables.{both};
 ghost use Rattle.tclv_lists.specs.Variables.{appended, Appends, row_lappend};
-ghost use Rattle.tclv_value.specs.ListObjects.{AppendsTop};
+ghost use Rattle.tclv_value.specs.ListObjects.{IsListAt, KeepsObjects, AppendsTop};
 
 use tclv_model::{CmdFault, Usage, VarState};
 use tclv_reply::{
@@ -20,16 +20,31 @@ use tclv_reply::{
 use tclv_text::NoMemory;
 use tclv_value::{At, Store};
 
-// Adds words, which are the top texts but the first of n, to the list in a cell.
+// How many elements the list in a cell has, whose object stays.
+fn read_len(store: &mut Store, cell: u64) -> Result<u64, CmdFault>
+    requires { HasPlace store.old (Cell cell) }
+    ensures reads { Reads (list_of (text_at store.old (Cell cell))) (λ ts len. len ≡ length ts)
+        store.old store.new result }
+    ensures objects { OnOk result (KeepsObjects store.old (Cell cell) store.new) }
+    ensures unread { OnOk result (IsListAt store.old (Cell cell) → store.new ≡ store.old) }
+{
+    match store.list_len(At::Cell(cell)) {
+        Ok(len) => Ok(len),
+        Err(fault) => Err(refuse_list(store, At::Cell(cell), fault)),
+    }
+}
+
+// Adds words, which are the top texts but the first of n, to the list in a cell, in place where it may be.
 fn append_words(store: &mut Store, cell: u64, n: usize) -> Result<(), CmdFault>
     requires cell { HasPlace store.old (Cell cell) }
     requires words { 1 < n }
     requires height { n ≤ length store.old.stack }
-    ensures { VarAnswers (and_then (list_of (text_at store.old (Cell cell))) (λ ts.
+    ensures answer { VarAnswers (and_then (list_of (text_at store.old (Cell cell))) (λ ts.
         both (list_text (ts ++ top (n - 1) store.old.stack)))) (var.Cell cell) n store.old store.new result }
+    ensures object { OnOk result (AppendsTop store.old (Cell cell) (n - 1) store.new) }
 {
     let height = store.height();
-    let len = match list_len(store, At::Cell(cell)) {
+    let len = match read_len(store, cell) {
         Ok(len) => len,
         Err(kind) => return settle(store, n, height, Err(kind)),
     };
@@ -51,7 +66,7 @@ fn append_word(store: &mut Store, cell: u64) -> Result<(), CmdFault>
     requires height { 2 ≤ length store.old.stack }
     ensures answer { VarAnswers (and_then (list_of (text_at store.old (Cell cell))) (λ ts.
         both (list_text (ts ++ top 1 store.old.stack)))) (var.Cell cell) 2 store.old store.new result }
-    ensures object { OnOk result (AppendsTop store.old (Cell cell) store.new) }
+    ensures object { OnOk result (AppendsTop store.old (Cell cell) 1 store.new) }
 {
     let height = store.height();
     match store.list_append(At::Cell(cell)) {
@@ -127,7 +142,8 @@ fn add_words(store: &mut Store, cell: u64, is_set: bool, n: usize) -> Result<(),
     ensures answer { VarAnswers (and_then (list_of (text_at store.old (Cell cell))) (λ ts.
         both (appended (text_at store.old (Cell cell)) (top (n - 1) store.old.stack) ts))) (var.Cell cell) n
         store.old store.new result }
-    ensures object { OnOk result (n ≡ 2 → IsTrue is_set → AppendsTop store.old (Cell cell) store.new) }
+    ensures object { OnOk result (1 < n → IsTrue is_set
+        → AppendsTop store.old (Cell cell) (n - 1) store.new) }
 {
     if !is_set {
         return make_list(store, cell, n);
@@ -145,14 +161,15 @@ fn add_words(store: &mut Store, cell: u64, is_set: bool, n: usize) -> Result<(),
 /// variable that is not set counts as empty. Without values the text stays, but must be a list. Refuses a
 /// variable that can't be used as a value, and then a text that is no list. (Tcl: lappend(n).)
 ///
-/// One value is added in place where the variable alone has its list: its object stays, and no counter
-/// rises unless the value is 50 deep. Where others have the list too, the variable gets a copy.
+/// Values are added in place where the variable alone has its list: its object stays, and where that is
+/// kept as a list no counter rises unless a value is 50 deep. Where others have the list too, the
+/// variable gets a copy, whose elements are counted as copied.
 pub fn cmd_lappend(store: &mut Store, variable: VarState, n: usize) -> Result<(), CmdFault>
     requires words { n + 1 ≤ length store.old.stack }
     requires named { HasName variable n }
     ensures answer { VarAnswers (row_lappend (call_word n store.old.stack) (top n store.old.stack)
         (variable_of variable store.old)) variable n store.old store.new result }
-    ensures object { OnOk result (n ≡ 2 → Appends variable store.old store.new) }
+    ensures object { OnOk result (1 < n → Appends variable store.old (n - 1) store.new) }
 {
     if n == 0 {
         return refuse_words(store, n, Usage::Lappend);

@@ -15,6 +15,7 @@ pub mod AppendLemmas
 pub mod ReplaceLemmas
 pub mod ReplacePlaceLemmas
 pub mod RetellLemmas
+pub mod CountLemmas
 pub mod SwapLemmas
 pub mod SetLemmas
 pub mod SetChangeLemmas
@@ -25,6 +26,7 @@ pub mod SetOneLemmas
 pub mod OpenLemmas
 pub mod WayPlaceLemmas
 pub mod OpenPlaceLemmas
+pub mod NameLemmas
 pub mod LeftoverLemmas
 pub mod CallerLemmas
 pub mod ElementLemmas

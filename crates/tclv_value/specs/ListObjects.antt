@@ -1,13 +1,17 @@
 -- Lists by the objects that stand behind places.
-use Rattle.std.specs.Prelude.{◌≡◌, ℕ, ◌+◌, ◌-◌, ◌<◌, ◌≤◌, length, List, Option, Some, None, IsSome, slice_index}
+use Rattle.std.specs.Prelude.{◌≡◌, ℕ, ◌+◌, ◌-◌, ◌<◌, ◌≤◌, length, List, Option, Some, None, IsSome, IsOkAnd, slice_index}
+use Rattle.tclv_text.specs.declared.counters.Stats.{Stats}
+use Rattle.tclv_text.specs.Elements.{elements}
 use Rattle.tclv_forms.specs.Lists.{spliced}
 use Rattle.tclv_heap.specs.Counters.{raised}
 use Rattle.tclv_heap.specs.Graph.{Graph, at, count_in, text_in}
 use Rattle.tclv_heap.specs.Stands.{deepest, depth_of}
 use Rattle.tclv_value.specs.Changes.{IsUnder}
 use Rattle.tclv_value.specs.Kept.{list_at}
+use Rattle.tclv_value.specs.Places.{text_of}
+use Rattle.tclv_value.specs.Setting.{copied_more}
 use Rattle.tclv_value.specs.Stacks.{top}
-use Rattle.tclv_value.specs.View.{View, id_of}
+use Rattle.tclv_value.specs.View.{View, HasPlace, id_of, text_at}
 use Rattle.tclv_value.specs.declared.forms.Form.{Form}
 use Rattle.tclv_value.specs.declared.places.At.{At}
 use Rattle.tclv_value.specs.declared.places.At.TheVariants.{Stack}
@@ -97,11 +101,55 @@ pub record KeepsLists (old : View) (n : ℕ) (new : View) : Type 0 where
 unfoldable pub KeepsCells : View → View → Type 0
 KeepsCells old new = (new.cell_ids ≡ old.cell_ids) × (new.stats ≡ old.stats)
 
--- What the top text becomes the last element of: where the object of the place is kept as a list and one holder alone has it, that object stays; where others have it and the
--- top text is less than 50 deep, the place has a new one. No counter rose where the object stays and the top text is less than 50 deep.
-unfoldable pub AppendsTop : View → At → View → Type 0
-AppendsTop old place new =
-    IsListAt old place →
+-- The same objects stand behind the places, none went, and that of this place has the holders that it had.
+pub record KeepsObjects (old : View) (place : At) (new : View) : Type 0 where
+  pub places : KeepsPlaces old new
+  pub there : ObjectsStay old new
+  pub count : count_at new place ≡ count_at old place
+
+-- What each view of a store is: the text of a place is what its object stands for, and each text of the stack has an object.
+pub record IsTold (v : View) : Type 0 where
+  pub text : (place : At) → HasPlace v place → text_at v place ≡ text_of v.graph (id_of v place)
+  pub heights : length v.stack_ids ≡ length v.stack
+
+-- What the top n texts became the last elements of: the object of the place stays exactly where one holder alone had it, and else the place has a new one. Where it was kept as a
+-- list and each of the n was less than 50 deep, no counter rose but that of copied elements, by those of the list, where others had the object too.
+unfoldable pub AppendsTop : View → At → ℕ → View → Type 0
+AppendsTop old place n new =
     (IsAloneAt old place → id_of new place ≡ id_of old place)
-    × ((IsAloneAt old place → ⊥) → depth_at old (Stack (length old.stack - 1)) < deepest → IsNewAt old new place)
-    × (IsAloneAt old place → depth_at old (Stack (length old.stack - 1)) < deepest → new.stats ≡ old.stats)
+    × ((IsAloneAt old place → ⊥) → IsNewAt old new place)
+    × ((ids : List ℕ) → list_at old.graph (id_of old place) ≡ Some ids → IsShallow n old
+    → (IsAloneAt old place → new.stats ≡ old.stats) × ((IsAloneAt old place → ⊥) → new.stats ≡ copied_more old.stats (length ids)))
+
+-- An object came to be kept as a list: where it wasn't one, the code points of its text are counted as read, and else none. None is counted as copied.
+unfoldable pub CountsRead : Stats → Graph Form → ℕ → Stats → Type 0
+CountsRead before g id after =
+    (IsSome (list_at g id) → after.read ≡ before.read)
+    × ((IsSome (list_at g id) → ⊥) → after.read ≡ raised before.read (length (text_of g id)))
+    × (after.copied ≡ before.copied)
+
+-- Where the object of the place was not kept as a list, the code points of its text are counted as read, and else none.
+unfoldable pub ReadsAt : View → At → View → Type 0
+ReadsAt old place new =
+    (IsListAt old place → new.stats.read ≡ old.stats.read)
+    × ((IsListAt old place → ⊥) → new.stats.read ≡ raised old.stats.read (length (text_at old place)))
+
+-- Where others had the object of the place too, the elements of its list are counted as copied, and else none.
+unfoldable pub CopiesAt : View → At → View → Type 0
+CopiesAt old place new =
+    (IsAloneAt old place → new.stats.copied ≡ old.stats.copied)
+    × ((IsAloneAt old place → ⊥) → IsOkAnd (elements (text_at old place)) (λ ts. new.stats.copied ≡ raised old.stats.copied (length ts)))
+
+-- no elements are counted as copied
+unfoldable pub CopiesNone : View → View → Type 0
+CopiesNone old new = new.stats.copied ≡ old.stats.copied
+
+-- nothing is counted but code points that were written
+unfoldable pub OnlyWrites : View → View → Type 0
+OnlyWrites old new = (new.stats.read ≡ old.stats.read) × (new.stats.copied ≡ old.stats.copied)
+
+-- Where the object of the place was kept as a list and others had it too, and the top text was less than 50 deep, no counter rose but that of copied elements, by those of the list.
+unfoldable pub CopiesShared : View → At → View → Type 0
+CopiesShared old place new =
+    (ids : List ℕ) → list_at old.graph (id_of old place) ≡ Some ids → (IsAloneAt old place → ⊥)
+    → depth_at old (Stack (length old.stack - 1)) < deepest → new.stats ≡ copied_more old.stats (length ids)

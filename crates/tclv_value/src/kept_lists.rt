@@ -11,7 +11,7 @@ ghost use Rattle.tclv_heap.specs.Holders.{Holders, Passes};
 ghost use Rattle.tclv_heap.specs.Stands.{Keeps, IsClosed, IsSound, deepest, depth_of};
 ghost use Rattle.tclv_value.specs.Forms.{form_table};
 ghost use Rattle.tclv_value.specs.Kept.{list_at, HasList, IsOutside, IsAbove, MakesTexts};
-ghost use Rattle.tclv_value.specs.ListObjects.{HasMade};
+ghost use Rattle.tclv_value.specs.ListObjects.{HasMade, CountsRead};
 ghost use Rattle.tclv_value.specs.Lists.{RefusesList};
 ghost use Rattle.tclv_value.specs.Paths.{RefusesStep};
 ghost use Rattle.tclv_value.specs.Places.{text_of, TextsStay};
@@ -59,6 +59,8 @@ pub(crate) fn keep_list(heap: &mut Heap<Forms>, alloc: Global, id: ObjId) -> Res
         → count_in (at heap.new.graph id) ≡ 1) }
     ensures memory { IsSome (list_at heap.old.graph id) → IsOk result }
     ensures step { IfErr result (λ why. RefusesStep why (text_of heap.old.graph id)) }
+    ensures counted { OnOk result
+        (CountsRead heap.old.stats heap.old.graph id heap.new.stats) }
 {
     if is_list(heap, id) {
         return Ok(());
@@ -160,6 +162,7 @@ fn read_list(heap: &mut Heap<Forms>, alloc: Global, id: ObjId) -> Result<ListFor
     ensures keeps { OnErr result (Keeps form_table heap.old.graph heap.new.graph) }
     ensures texts { OnErr result (TextsStay heap.old.graph heap.new.graph) }
     ensures there { OnErr result (IsSome (at heap.new.graph id)) }
+    ensures stats { OnOk result (heap.new.stats ≡ heap.old.stats) }
 {
     let text = text_bytes(heap, alloc, id)?;
     let spans = split_list(alloc, text.as_slice())?;
@@ -194,6 +197,7 @@ fn make_elements(
     ensures holders { OnErr result (Passes form_table.parts heap.old.graph [] heap.new.graph []) }
     ensures keeps { OnErr result (Keeps form_table heap.old.graph heap.new.graph) }
     ensures texts { OnErr result (TextsStay heap.old.graph heap.new.graph) }
+    ensures stats { OnOk result (heap.new.stats ≡ heap.old.stats) }
 {
     let mut list = ListForm::with_room(alloc, spans.len())?;
     for span in spans {
@@ -223,6 +227,7 @@ fn make_element(
     ensures room { list.old.room ≤ list.new.room + 1 }
     ensures list { OnErr result (list.new.ids ≡ list.old.ids) }
     ensures heap { OnErr result (heap.new ≡ heap.old) }
+    ensures stats { heap.new.stats ≡ heap.old.stats }
 {
     let one = element(alloc, text, span)?;
     let id = heap.make_text_object(one)?;

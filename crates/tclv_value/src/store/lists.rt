@@ -11,6 +11,8 @@ ghost use Rattle.tclv_value.specs.Changes.{IsUnder, KeepsTexts, Gathers, Puts};
 ghost use Rattle.tclv_value.specs.Kept.{list_at};
 ghost use Rattle.tclv_value.specs.Lists.{RefusesList};
 ghost use Rattle.tclv_value.specs.ListObjects.{IsListAt, IsAloneAt, SharesTop, SharesElement, ChangesAt, Retells, IsNewAt, IsElementMade, count_at, depth_at, ObjectsStay, KeepsPlaces};
+ghost use Rattle.tclv_value.specs.ListObjects.{ReadsAt, CopiesAt, CopiesNone, OnlyWrites, CopiesShared, KeepsObjects, IsTold};
+ghost use Rattle.tclv_value.specs.Setting.{copied_more};
 ghost use Rattle.tclv_value.specs.Paths.{RefusesStep};
 ghost use Rattle.tclv_value.specs.declared.places.At.{At};
 ghost use Rattle.tclv_value.specs.declared.places.At.TheVariants.{Stack};
@@ -38,6 +40,8 @@ impl Store {
         ensures alone { OnOk result (IsAloneAt self.old at → IsAloneAt self.new at) }
         ensures memory { IsListAt self.old at → IsOk result }
         ensures step { IfErr result (λ why. RefusesStep why (text_at self.old at)) }
+        ensures read { OnOk result (ReadsAt self.old at self.new) }
+        ensures copied { OnOk result (CopiesNone self.old self.new) }
     {
         let id = object_at(self.stack.as_slice(), &self.cells, at);
         keep_list(&mut self.heap, self.alloc, id)
@@ -47,7 +51,10 @@ impl Store {
     pub(super) fn kept_len(&self, at: At) -> u64
         requires place { HasPlace self.now at }
         requires list { IsListAt self.now at }
-        ensures { IsOkAnd (elements (text_at self.now at)) (λ ts. result ≡ length ts) }
+        ensures text { IsOkAnd (elements (text_at self.now at)) (λ ts. result ≡ length ts) }
+        ensures ids { (ids : List ℕ) → list_at self.now.graph (id_of self.now at) ≡ Some ids
+            → result ≡ length ids }
+        ensures told { IsTold self.now }
     {
         let id = object_at(self.stack.as_slice(), &self.cells, at);
         length_of(&self.heap, id)
@@ -90,6 +97,10 @@ impl Store {
         ensures kept { OnErr result (KeepsTexts self.old self.new) }
         ensures fresh { OnOk result (IsNewAt self.old self.new at) }
         ensures listed { OnOk result (IsListAt self.new at) }
+        ensures copies { OnOk result (IsOkAnd (elements (text_at self.old at)) (λ ts.
+            self.new.stats ≡ copied_more self.old.stats (length ts))) }
+        ensures stats { OnOk result ((ids : List ℕ) → list_at self.old.graph (id_of self.old at) ≡ Some ids
+            → self.new.stats ≡ copied_more self.old.stats (length ids)) }
     {
         let id = object_at(self.stack.as_slice(), &self.cells, at);
         let (copy, next) = copy_list(&mut self.heap, self.alloc, id)?;
@@ -139,6 +150,7 @@ impl Store {
         ensures kept { KeepsTexts self.old self.new }
         ensures list { OnOk result (IsListAt self.new at) }
         ensures unread { IsListAt self.old at → self.new ≡ self.old }
+        ensures objects { OnOk result (KeepsObjects self.old at self.new) }
     {
         self.keep_list_at(at)?;
         Ok(self.kept_len(at))
@@ -242,6 +254,9 @@ impl Store {
         ensures counters { OnOk result (IsListAt self.old at → IsAloneAt self.old at
             → depth_at self.old (Stack (length self.old.stack - 1)) < deepest
             → self.new.stats ≡ self.old.stats) }
+        ensures shared { OnOk result (CopiesShared self.old at self.new) }
+        ensures read { OnOk result (ReadsAt self.old at self.new) }
+        ensures copied { OnOk result (CopiesAt self.old at self.new) }
     {
         self.keep_list_at(at)?;
         self.make_top_shallow()?;
@@ -300,6 +315,7 @@ impl Store {
         ensures memory { depth_at self.old (Stack (length self.old.stack - 1)) < deepest
             → IsOk result }
         ensures retells { Retells self.old self.new }
+        ensures written { OnlyWrites self.old self.new }
     {
         let id = self.stack[self.stack.len() - 1];
         if self.heap.depth(id) < 50 {

@@ -7,7 +7,7 @@ ghost use Rattle.tclv_value.specs.View.{HasPlace, IsMade, KeepsMade, text_at, id
 ghost use Rattle.tclv_value.specs.Stacks.{top};
 ghost use Rattle.tclv_value.specs.Changes.{IsUnder, KeepsTexts, Puts};
 ghost use Rattle.tclv_value.specs.ListObjects.{IsListAt, IsAloneAt, IsNewAt, depth_at, KeepsPlaces, KeepsLists, ObjectsStay};
-ghost use Rattle.tclv_value.specs.SetObjects.{SetsInPlace, SetsInCopy, MakesListAt, SetsWithoutWork, CopiesElements, NeedsNoMemory, SetsAlong};
+ghost use Rattle.tclv_value.specs.SetObjects.{SetsInPlace, SetsInCopy, MakesListAt, SetsWithoutWork, CopiesElements, NeedsNoMemory, IsOpenAt, SetsAlong};
 ghost use Rattle.tclv_value.specs.Setting.{copied_more};
 ghost use Rattle.tclv_value.specs.Paths.{put_at, step, set_path, RefusesPath, NamesElement};
 ghost use Rattle.tclv_value.specs.declared.faults.ValueFault.{ValueFault};
@@ -57,6 +57,7 @@ impl Store {
         ensures copies { OnOk result (CopiesElements self.old at path self.new) }
         ensures memory { IfErr result (λ why. NeedsNoMemory self.old at path why) }
         ensures along { OnOk result (SetsAlong self.old at path self.new) }
+        ensures opens { IfErr result (λ why. IsOpenAt self.old at path → why ≡ fault.NoMemory) }
     {
         if path == 1 {
             return self.set_one(at);
@@ -94,6 +95,7 @@ impl Store {
             → depth_at self.old (Stack (length self.old.stack - 1)) < deepest
             → NamesElement (text_at self.old at) (text_at self.old (Stack (length self.old.stack - 2)))
             → why ≢ fault.NoMemory) }
+        ensures opens { IfErr result (λ why. IsOpenAt self.old at 1 → why ≡ fault.NoMemory) }
     {
         let alone = self.is_alone(at);
         self.keep_list_at(at)?;
@@ -139,6 +141,8 @@ impl Store {
             RefusesPath why (step 0 (text_at self.now at) (text_at self.now index))) }
         ensures within { IfOk result (λ k. IsOkAnd (elements (text_at self.now at)) (λ ts. k ≤ length ts)) }
         ensures memory { IfErr result (λ why. why ≢ fault.NoMemory) }
+        ensures opens { IfErr result (λ why. 2 ≤ length self.now.stack
+            → index ≡ Stack (length self.now.stack - 2) → IsOpenAt self.now at 1 → ⊥) }
     {
         let len = self.kept_len(at) as usize;
         place_of(self.made_text(index), len, 0)

@@ -8,6 +8,7 @@ ghost use Rattle.tclv_value.specs.ListObjects.{IsListAt};
 ghost use Rattle.tclv_value.specs.Paths.{set_path, RefusesPath};
 ghost use Rattle.tclv_value.specs.SetObjects.{IsOpenAt, SetsAlong};
 ghost use Rattle.tclv_value.specs.Ways.{Opens, text_along};
+ghost use Rattle.tclv_value.specs.declared.faults.ValueFault.TheVariants as fault;
 ghost use Rattle.tclv_value.specs.declared.places.At.TheVariants.{Stack};
 
 use super::Store;
@@ -32,6 +33,7 @@ impl Store {
             (text_at self.old (Stack (length self.old.stack - 1))))) }
         ensures kept { OnErr result (KeepsTexts self.old self.new) }
         ensures along { OnOk result (SetsAlong self.old at path self.new) }
+        ensures opens { IfErr result (λ why. IsOpenAt self.old at path → why ≡ fault.NoMemory) }
     {
         if self.set_along(at, path)? {
             return Ok(());

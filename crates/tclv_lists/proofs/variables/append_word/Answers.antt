@@ -8,10 +8,9 @@ use Rattle.tclv_value.specs.View.{text_at}
 use Rattle.tclv_value.specs.declared.places.At.TheVariants.{Cell}
 use Rattle.tclv_value.specs.Stacks.{top, under}
 use Rattle.tclv_value.specs.Changes.{Puts}
-use Rattle.tclv_value.specs.ListObjects.{AppendsTop}
 use Rattle.tclv_reply.specs.Variables.{both}
 use Rattle.tclv_reply.proofs.Laws.{refused_on, refused_after, grows_trans, grows_kept, cells_text, cell_there, cell_text, var_given, var_refused, under_under}
-use Rattle.tclv_lists.proofs.VariableLemmas.{a_list, appends_top, not_ok}
+use Rattle.tclv_lists.proofs.VariableLemmas.{a_list, appends_one, not_ok}
 use Rattle.tclv_lists.proofs.variables.append_word.Goals as goal
 use Rattle.tclv_lists.proofs.variables.append_word.Goals.{In-Ok}
 
@@ -43,10 +42,9 @@ returns-in-Ok-clause-answer c =
     (c.give_text.ensures.cells ∙ p.cells)
 
 pub returns-in-Ok-clause-object : goal.returns-in-Ok-clause-object
-unfolding AppendsTop
 returns-in-Ok-clause-object c =
     let e = c.in-Ok.ensures in
-    appends_top c.args.store.now c.list_append.new.self c.give_text.new.store c.args.cell _ e.same e.fresh e.counters c.give_text.ensures.objects
+    appends_one c.args.store.now c.list_append.new.self c.give_text.new.store c.args.cell e.changed e.counters e.shared c.give_text.ensures.objects
 
 pub returns-in-Err-clause-object : goal.returns-in-Err-clause-object
 returns-in-Err-clause-object c = not_ok c.settle.result c.refuse_list-kind.result _ c.settle.ensures.same

@@ -1,4 +1,8 @@
-use Rattle.std.proofs.Common.{◌≡◌, ℕ, List, Option, Some, None, IsSome, is_some, true≢false, refl, sym, ap, ◌∙◌}
+use Rattle.std.proofs.Common.{◌≡◌, ℕ, List, [], Option, Some, None, IsSome, is_some, true≢false, refl, sym, ap, ◌∙◌}
+use Rattle.std.proofs.Common.{length}
+use Rattle.std.specs.Option.{unwrap_or}
+use Rattle.tclv_heap.specs.Counters.{raised, text_size}
+use Rattle.tclv_value.specs.ListObjects.{CountsRead}
 use Rattle.tclv_value.specs.Kept.{list_at}
 use Rattle.tclv_heap.specs.Graph.{at}
 use Rattle.tclv_heap.specs.Holders.{Holders}
@@ -67,3 +71,22 @@ returns-clause-alone c one =
     let a = (goal.at.returns-clause-alone c).In_ok-list in
     let stays = c.set_form.ensures.stays (made_outside _ _ _ _ c.in_ok-list.ensures.read.2 c.requires.outside.ids c.args.id (holders a) c.requires.outside.listed) in
     kept_alone _ _ _ _ c.args.id _ c.in_ok-list.list (there a) c.make_string.ensures.retexts c.in_ok-make_string.ensures.keeps c.in_ok-list.ensures.read.2 c.set_form.ensures.keeps (ap is_some c.in_ok-make_string.ensures.made) c.set_form.ensures.set one stays
+
+pub returns-then-is_list-clause-counted : goal.returns-then-is_list-clause-counted
+unfolding CountsRead
+returns-then-is_list-clause-counted c = (λ _. refl, λ no. absurd (no (c.is_list.ensures.0 c.if-is_list.true)), refl)
+
+pub returns-clause-counted : goal.returns-clause-counted
+unfolding CountsRead
+returns-clause-counted c =
+    let a = (goal.at.returns-clause-counted c).In_ok-list in
+    let d = c.read_list.new.heap in
+    let size = ap text_size (c.in_ok-list.ensures.read.2.others c.args.id (there_b a)) ∙ ap (λ t. length (unwrap_or t [])) c.in_ok-make_string.ensures.made in
+    let none = unlisted a in (
+      λ list. absurd (true≢false (sym list ∙ ap is_some none)),
+      λ _. ap (λ s. s.read) c.set_form.ensures.read
+          ∙ ap (λ s. raised s.read (text_size (at d.graph c.args.id))) c.in_ok-list.ensures.stats
+          ∙ ap (λ h. raised h.stats.read (text_size (at d.graph c.args.id))) c.make_string.ensures.rest
+          ∙ ap (raised c.args.heap.now.stats.read) size,
+      ap (λ s. s.copied) c.set_form.ensures.read ∙ ap (λ s. s.copied) c.in_ok-list.ensures.stats ∙ ap (λ h. h.stats.copied) c.make_string.ensures.rest,
+    )

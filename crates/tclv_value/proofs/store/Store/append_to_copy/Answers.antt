@@ -1,13 +1,22 @@
-use Rattle.std.proofs.Common.{◌≡◌, ◌++◌, ◌∷◌, [], IsSome, is_some, Result, Ok, Err, ap, sym, subst, ◌∙◌}
+use Rattle.std.proofs.Common.{◌≡◌, ◌++◌, ◌∷◌, [], Some, IsSome, is_some, Result, Ok, Err, ap, sym, subst, ◌∙◌}
 use Rattle.std.specs.Prelude.{OnErr}
 use Rattle.std.specs.Option.{option_to_list}
 use Rattle.tclv_heap.specs.Graph.{at}
-use Rattle.tclv_value.specs.Kept.{list_at}
+use Rattle.tclv_value.specs.Kept.{list_in, list_at}
 use Rattle.tclv_value.specs.Places.{id_at, places, view_of, IsPlaced}
-use Rattle.tclv_value.specs.View.{id_of}
+use Rattle.std.proofs.Common.{length, map}
+use Rattle.std.proofs.lemmas.List.{length-map}
+use Rattle.tclv_heap.specs.Graph.{form_parts}
+use Rattle.tclv_text.specs.Elements.{elements}
+use Rattle.tclv_value.specs.Forms.{parts_of}
+use Rattle.tclv_value.specs.Places.{text_of}
+use Rattle.tclv_value.specs.Setting.{copied_more}
+use Rattle.tclv_value.specs.View.{id_of, text_at}
+use Rattle.tclv_value.proofs.AppendLemmas.{list_parts}
+use Rattle.tclv_value.proofs.ElementLemmas.{known_elements}
 use Rattle.tclv_value.specs.ListObjects.{IsListAt}
 use Rattle.tclv_value.proofs.ViewLemmas.{named_id, id_of_is, under_there, kept_stack, kept_cells, stays_made}
-use Rattle.tclv_value.proofs.AppendPlaceLemmas.{has2}
+use Rattle.tclv_value.proofs.AppendPlaceLemmas.{has2, text_here}
 use Rattle.tclv_value.proofs.CopyPlaceLemmas.{copied_list, can_copy, old_outside, placed3, copied_view}
 use Rattle.tclv_value.proofs.store.Store.append_to_copy.Goals as goal
 use Rattle.tclv_value.proofs.store.Store.append_to_copy.Goals.{After-object_at-id, In_err-copy, In-Some}
@@ -92,3 +101,26 @@ returns-clause-listed c =
     ap (λ o. is_some (list_at c.release.new.self.graph o)) new_id
     ∙ ap is_some (copied_list c.self.inside.heap.graph c.self.inside.stack.items c.pop.new.self.items c.self.inside.cells.entries c.in-Some.value c.object_at-id.result c.args.at c.args.self.now c.self.view_is (ends a) c.self.invariant (id_is b) c.requires.place c.requires.list c.requires.shallow c.copy_list.new.heap.graph c.in_ok-copy.copy c.in_ok-copy.ensures.copied
     c.append_value.new.heap.graph c.append_value.ensures.appended c.put_object-old.new.stack.items c.put_object-old.new.cells.entries c.put_object-old.result c.put_object-old.ensures c.release.new.self.graph c.release.ensures.released c.release.ensures.holders c.release.ensures.keeps)
+
+pub returns-clause-copies : goal.returns-clause-copies
+returns-clause-copies c =
+    let a = (goal.at.returns-clause-copies c).In-Some in
+    let b = (goal.at.returns-clause-copies c).After-object_at-id in
+    let g = c.self.inside.heap.graph in
+    let kept = c.copy_list.ensures.elements in
+    let len = ap (λ f. length (form_parts parts_of f)) kept.2.form ∙ ap length (list_parts kept.0 kept.1 kept.2.list) ∙ sym (length-map kept.1 (text_of g)) in
+    let here = text_here g c.self.inside.stack.items c.pop.new.self.items c.self.inside.cells.entries c.in-Some.value c.object_at-id.result c.args.at c.args.self.now c.self.view_is (ends a) c.self.invariant (id_is b) c.requires.place c.requires.list c.requires.shallow in
+    known_elements (elements (text_at c.args.self.now c.args.at)) _ (map (text_of g) kept.1) (ap elements here ∙ kept.2.elements)
+    (ap (λ h. h.stats) c.release.ensures.rest ∙ ap (λ h. h.stats) c.append_value.ensures.rest ∙ c.in_ok-copy.ensures.counted
+    ∙ ap (copied_more c.self.inside.heap.stats) len ∙ ap (λ v. copied_more v.stats (length (map (text_of g) kept.1))) c.self.view_is)
+
+pub returns-clause-stats : goal.returns-clause-stats
+returns-clause-stats c ids is =
+    let b = (goal.at.returns-clause-stats c).After-object_at-id in
+    let g = c.self.inside.heap.graph in
+    let kept = c.copy_list.ensures.elements in
+    let there = ap (list_at g) (id_is b ∙ sym (id_of_is g c.self.inside.heap.stats c.self.inside.stack.items c.self.inside.cells.entries c.args.at)) ∙ ap (λ v. list_at v.graph (id_of v c.args.at)) c.self.view_is ∙ is in
+    let same = (let e : Some kept.1 ≡ Some ids = sym (ap list_in kept.2.form ∙ kept.2.list) ∙ there in let e2 : kept.1 ≡ ids = cc in e2) in
+    let len = ap (λ f. length (form_parts parts_of f)) kept.2.form ∙ ap length (list_parts kept.0 kept.1 kept.2.list) ∙ ap length same in
+    ap (λ h. h.stats) c.release.ensures.rest ∙ ap (λ h. h.stats) c.append_value.ensures.rest ∙ c.in_ok-copy.ensures.counted
+    ∙ ap (copied_more c.self.inside.heap.stats) len ∙ ap (λ v. copied_more v.stats (length ids)) c.self.view_is

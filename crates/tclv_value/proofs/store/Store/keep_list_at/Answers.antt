@@ -5,7 +5,10 @@ use Rattle.tclv_value.specs.Kept.{list_at}
 use Rattle.tclv_value.specs.View.{id_of}
 use Rattle.tclv_value.specs.Lists.{RefusesList}
 use Rattle.tclv_value.specs.Paths.{RefusesStep}
-use Rattle.tclv_value.specs.ListObjects.{IsListAt, IsAloneAt}
+use Rattle.std.proofs.Common.{length}
+use Rattle.tclv_heap.specs.Counters.{raised}
+use Rattle.tclv_value.specs.ListObjects.{IsListAt, IsAloneAt, CountsRead, ReadsAt, CopiesNone}
+use Rattle.tclv_value.proofs.CountLemmas.{read_as}
 use Rattle.tclv_value.specs.Places.{id_at, view_of, IsPlaced, places}
 use Rattle.tclv_value.proofs.AnswerLemmas.{on_ok}
 use Rattle.tclv_value.proofs.ViewLemmas.{named_id, named_listed, named_text, id_of_is, kept_stack, kept_cells, stays_made}
@@ -92,3 +95,12 @@ returns-clause-alone c =
     ap (λ o. count_in (at h o)) (id_of_is h c.keep_list.new.heap.stats c.self.inside.stack.items c.self.inside.cells.entries c.args.at ∙ sym (id_is b))
     ∙ kept (sym (ap (λ o. count_in (at g o)) (id_of_is g c.self.inside.heap.stats c.self.inside.stack.items c.self.inside.cells.entries c.args.at ∙ sym (id_is b))) ∙ subst (λ v. IsAloneAt v c.args.at) (sym c.self.view_is) alone))
     c.keep_list.ensures.alone
+
+pub returns-clause-read : goal.returns-clause-read
+returns-clause-read c =
+    let b = (goal.at.returns-clause-read c).After-object_at-id in
+    on_ok c.keep_list.result (λ counted. read_as c.self.inside.heap.graph c.keep_list.new.heap.graph c.self.inside.heap.stats c.keep_list.new.heap.stats c.self.inside.stack.items c.self.inside.cells.entries c.object_at-id.result c.args.at c.args.self.now c.self.view_is (id_is b) (named_text c.self.inside.heap.graph _ _ _ c.self.view_is c.args.at c.requires _ (id_is b)) counted) c.keep_list.ensures.counted
+
+pub returns-clause-copied : goal.returns-clause-copied
+unfolding CountsRead CopiesNone
+returns-clause-copied c = on_ok c.keep_list.result (λ counted. counted.2 ∙ ap (λ v. v.stats.copied) c.self.view_is) c.keep_list.ensures.counted

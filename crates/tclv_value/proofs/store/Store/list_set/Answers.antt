@@ -2,7 +2,7 @@ use Rattle.std.proofs.Common.{◌+◌, ◌-◌, length, subst}
 use Rattle.tclv_value.specs.declared.places.At.TheVariants.{Stack}
 use Rattle.std.specs.Prelude.{IfErr}
 use Rattle.tclv_value.specs.Paths.{set_path, RefusesPath}
-use Rattle.tclv_value.specs.SetObjects.{SetsInPlace, SetsInCopy, MakesListAt, SetsWithoutWork, CopiesElements, NeedsNoMemory, SetsAlong}
+use Rattle.tclv_value.specs.SetObjects.{IsOpenAt, SetsInPlace, SetsInCopy, MakesListAt, SetsWithoutWork, CopiesElements, NeedsNoMemory, SetsAlong}
 use Rattle.tclv_value.specs.View.{text_at}
 use Rattle.tclv_value.proofs.AnswerLemmas.{on_ok}
 use Rattle.tclv_value.proofs.OpenPlaceLemmas.{one_along}
@@ -66,3 +66,6 @@ returns-clause-copies c = on_ok_any c.set_deep.result (CopiesElements c.args.sel
 
 pub returns-then-path-eq1-clause-along : goal.returns-then-path-eq1-clause-along
 returns-then-path-eq1-clause-along c = one_along c.args.self.now c.set_one.new.self c.args.at c.args.path c.set_one.result c.if-path-eq1.true (under_high c.args.self.now (c.args.path + 1) c.args.at c.requires.place) c.set_one.ensures.same c.set_one.ensures.listed c.set_one.ensures.counters
+
+pub returns-then-path-eq1-clause-opens : goal.returns-then-path-eq1-clause-opens
+returns-then-path-eq1-clause-opens c = if_err c.set_one.result _ _ (λ why refuses opens. refuses (subst (IsOpenAt c.args.self.now c.args.at) c.if-path-eq1.true opens)) c.set_one.ensures.opens

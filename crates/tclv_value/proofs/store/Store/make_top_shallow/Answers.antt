@@ -1,6 +1,6 @@
 use Rattle.std.proofs.Common.{IsSome, refl, ap, sym, subst, ◌∙◌}
 use Rattle.tclv_heap.specs.Graph.{at, count_in}
-use Rattle.tclv_value.specs.ListObjects.{IsAloneAt, Retells}
+use Rattle.tclv_value.specs.ListObjects.{IsAloneAt, Retells, OnlyWrites}
 use Rattle.tclv_value.specs.Places.{IsPlaced, places, id_at, view_of}
 use Rattle.tclv_value.proofs.GraphLemmas.{retexted_made, retexted_count, retexted_there}
 use Rattle.tclv_value.proofs.RetellLemmas.{retold}
@@ -40,3 +40,14 @@ pub returns-clause-retells : goal.returns-clause-retells
 returns-clause-retells c =
     let now = view_of c.make_string.new.self.graph c.make_string.new.self.stats c.self.inside.stack.items c.self.inside.cells.entries in
     subst (λ v. Retells v now) c.self.view_is (retold _ (view_of c.self.inside.heap.graph c.self.inside.heap.stats c.self.inside.stack.items c.self.inside.cells.entries) now (record { stack = refl; cells = refl }) c.make_string.ensures.retexts)
+
+pub returns-then-depth-lt50-clause-written : goal.returns-then-depth-lt50-clause-written
+unfolding OnlyWrites
+returns-then-depth-lt50-clause-written c = (refl, refl)
+
+pub returns-clause-written : goal.returns-clause-written
+unfolding OnlyWrites
+returns-clause-written c = (
+  ap (λ h. h.stats.read) c.make_string.ensures.rest ∙ ap (λ v. v.stats.read) c.self.view_is,
+  ap (λ h. h.stats.copied) c.make_string.ensures.rest ∙ ap (λ v. v.stats.copied) c.self.view_is,
+)

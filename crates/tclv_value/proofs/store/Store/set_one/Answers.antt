@@ -11,6 +11,9 @@ use Rattle.tclv_value.specs.View.{HasPlace}
 use Rattle.tclv_value.proofs.GraphLemmas.{by_slot, no_object}
 use Rattle.tclv_value.proofs.SetOneLemmas.{one_set, under_then, one_below, id_same, place_same, made_then, shallow_then, all_same, err_any, by_flag}
 use Rattle.tclv_value.proofs.ViewLemmas.{under_there}
+use Rattle.tclv_value.proofs.NameLemmas.{open_refuted}
+use Rattle.tclv_value.proofs.OpenPlaceLemmas.{open_one}
+use Rattle.tclv_value.proofs.WayPlaceLemmas.{under_high}
 use Rattle.tclv_value.proofs.store.Store.set_one.Goals as goal
 use Rattle.tclv_value.proofs.store.Store.set_one.Goals.{After-make_top_shallow, After-drop_top}
 
@@ -86,3 +89,13 @@ returns-clause-copies c list shared made shallow =
     let counted = c.in_ok-change_at.ensures.copies (λ alone. shared (c.is_alone-alone.ensures.0 alone)) in
     subst (λ v. IsOkAnd (elements (text_at v c.args.at)) (λ ts. c.drop_top.new.self.stats ≡ copied_more v.stats (length ts))) same
     (ok_and (elements (text_at c.make_top_shallow.new.self c.args.at)) (λ ts. c.change_at.new.self.stats ≡ copied_more c.make_top_shallow.new.self.stats (length ts)) (λ ts. c.drop_top.new.self.stats ≡ copied_more c.make_top_shallow.new.self.stats (length ts)) (λ ts e. c.drop_top.ensures.lists.stats ∙ e) counted)
+
+pub returns-in_err-place-clause-opens : goal.returns-in_err-place-clause-opens
+returns-in_err-place-clause-opens c =
+    err_any c.from_residual-in_err-place.result _ (λ why opens. absurd (open_refuted c.args.self.now c.keep_list_at.new.self c.write_text.new.self c.args.at c.height-height.result c.height-height.ensures (under_high c.args.self.now 2 c.args.at c.requires) c.keep_list_at.ensures.unread c.write_text.ensures.made_before c.in_err-place.ensures.opens opens))
+
+pub returns-in_err-keep_list_at-clause-opens : goal.returns-in_err-keep_list_at-clause-opens
+returns-in_err-keep_list_at-clause-opens c =
+    err_any c.from_residual.result _ (λ why opens.
+    let no = c.in_err-keep_list_at.ensures.memory (open_one c.args.self.now c.args.at 1 refl (under_high c.args.self.now 2 c.args.at c.requires) opens).0 in
+    absurd (cc))
