@@ -1,17 +1,17 @@
 -- A variable that can't be set.
-use Rattle.std.proofs.Common.{◌≡◌, ℕ, List, [], ap, false, Err, None, Some}
+use Rattle.std.proofs.Common.{◌≡◌, ℕ, List, [], ap, ◌∙◌, false, Err, Some}
 use Rattle.tclv_io.specs.World.{World}
-use Rattle.tclv_vars.specs.declared.places.Place.TheVariants as place
+use Rattle.tclv_reply.specs.Names.{naming}
 use Rattle.tclv_vars.specs.declared.faults.VarFault.{VarFault}
 use Rattle.tclv_vars.specs.declared.faults.VarFault.TheVariants as fault
-use Rattle.tclv_vars.specs.Table.{write, Refuses}
+use Rattle.tclv_vars.specs.Table.{Refuses}
 use Rattle.tclv_model.specs.Message.{text_of}
 use Rattle.tclv_model.specs.declared.error_codes.ErrorCode.TheVariants.{NoCode}
 use Rattle.tclv_engine.specs.declared.endings.End.{End}
 use Rattle.tclv_engine.specs.declared.machine.Machine.{Machine}
 use Rattle.tclv_engine.specs.State.{Text, state_of}
 use Rattle.tclv_model.specs.ErrorCodes.{error_code}
-use Rattle.tclv_engine.specs.Names.{bytes_of}
+use Rattle.tclv_engine.specs.Names.{bytes_of, write_named}
 use Rattle.tclv_engine.specs.Variables.{is_unbuilt, assign, setting_message, RefusesSetting}
 use Rattle.tclv_engine.specs.Answers.{Outer, Runs, SameState, Raises, on_top}
 use Rattle.tclv_engine.proofs.Binds.{runs_as}
@@ -20,14 +20,14 @@ use Rattle.tclv_engine.proofs.VariableLemmas.{assign-write}
 
 module _ {W : Type 0} (old new : (Machine W)) (w : World) (here : Outer) (bs : List ℕ) (name value : Text) where
   refused-by : (f : VarFault) (e : End) → here.told ≡ Some w → SameState old new → bs ≡ bytes_of name → is_unbuilt bs ≡ false →
-      write old.values.vars place.Frame (bytes_of name) None ≡ Err f →
+      write_named old.values.vars (naming (bytes_of name)) ≡ Err f →
       Raises (text_of (setting_message f) name []) (error_code NoCode name) new.values.store.stack e →
       Runs {T = Unit {0}} (assign name value (state_of old w)) on_top (record { world = w; torn = here.torn; events = old.writes }) (Err e) new here
-  refused-by f e told same b u r h = runs_as (assign-write bs name value (state_of old w) (Err f) b u r) (raise_runs old told same h)
+  refused-by f e told same b u r h = runs_as (assign-write bs name value (state_of old w) (Err f) b u (ap (λ x. write_named old.values.vars (naming x)) b ∙ r)) (raise_runs old told same h)
 
   -- the refusal of a write, or want of memory
   pub refused-runs : (f : VarFault) (e : End) → here.told ≡ Some w → SameState old new → bs ≡ bytes_of name → is_unbuilt bs ≡ false →
-      Refuses (write old.values.vars place.Frame (bytes_of name) None) f →
+      Refuses (write_named old.values.vars (naming (bytes_of name))) f →
       RefusesSetting f name new.values.store.stack e →
       Runs {T = Unit {0}} (assign name value (state_of old w)) on_top (record { world = w; torn = here.torn; events = old.writes }) (Err e) new here
   refused-runs fault.NoVariable e told same b u r h = refused-by fault.NoVariable e told same b u r h

@@ -11,13 +11,15 @@ use Rattle.std.specs.FinMap.{FinMap, get, insert, empty, get-empty, get-insert}
 use Rattle.tclv_vars.specs.declared.parts.Content.{Content}
 use Rattle.tclv_vars.specs.declared.parts.Content.TheVariants.{Plain, Array}
 use Rattle.tclv_vars.specs.declared.faults.VarFault.{VarFault}
-use Rattle.tclv_vars.specs.Table.{Table, Spot, has_value, holds_value, no_variables, set_spot, set_cell, plain, Refuses, write}
+use Rattle.tclv_vars.specs.Table.{Table, Spot, has_value, holds_value, no_variables, set_spot, set_cell, plain, Refuses}
 use Rattle.std.specs.Str.{chars}
 use Rattle.tclv_text.specs.Texts.{IsText}
 use Rattle.tclv_vars.specs.declared.places.Place.TheVariants as place
 use Rattle.tclv_vars.specs.declared.places.Missing.{Missing}
 use Rattle.tclv_vars.specs.Sound.{Sound}
 use Rattle.tclv_vars.specs.Undo.{FreshWrite, missing}
+use Rattle.tclv_reply.specs.Names.{naming}
+use Rattle.tclv_engine.specs.Names.{write_named}
 use Rattle.tclv_engine.proofs.NameLemmas.{bytes-are}
 use Rattle.tclv_engine.specs.Holdings.{IsTied}
 
@@ -85,12 +87,12 @@ pub same_lent : (v v' : View) (at : At) (x y : List ℕ) → v'.stack ≡ v.stac
 same_lent v v' at x y e f u w p q = bytes-are x _ u (p ∙ same_text v v' at e f) ∙ sym (bytes-are y _ w q)
 
 pub fresh_write : (t now : Table) (x y z : List ℕ) (cell : ℕ) (fresh : Bool) (lacked : Missing) →
-    write t place.Frame y None ≡ Ok (record { cell = cell; fresh = fresh; after = now }) → fresh ≡ true → lacked ≡ missing t place.Frame x None → Sound t → z ≡ x → z ≡ y →
-    FreshWrite t place.Frame z None lacked now
+    write_named t (naming y) ≡ Ok (record { cell = cell; fresh = fresh; after = now }) → fresh ≡ true → lacked ≡ missing t place.Frame (naming x).name (naming x).index → Sound t → z ≡ x → z ≡ y →
+    FreshWrite t place.Frame (naming z).name (naming z).index lacked now
 fresh_write t now x y z cell fresh lacked w f l s e d = record {
   cell = cell;
-  wrote = ap (λ b. write t place.Frame b None) d ∙ w ∙ ap (λ v. Ok (record { cell = cell; fresh = v; after = now })) f;
-  lacks = l ∙ ap (λ b. missing t place.Frame b None) (sym e);
+  wrote = ap (λ b. write_named t (naming b)) d ∙ w ∙ ap (λ v. Ok (record { cell = cell; fresh = v; after = now })) f;
+  lacks = l ∙ ap (λ b. missing t place.Frame (naming b).name (naming b).index) (sym e);
   sound = s;
 }
 

@@ -1,24 +1,11 @@
--- One step in a name.
-use Rattle.std.proofs.Common.{◌≡◌, ℕ, ◌+◌, ◌-◌, ◌<◌, List, ◌∷◌, length, take, drop, get_or, sym, ap, ◌∙◌, arith, Bool, nat_eq, length-drop}
-use Rattle.std.specs.Prelude.{◌||◌, codes}
-use Rattle.std.specs.List.{starts_with}
-use Rattle.std.proofs.lemmas.List.{drop_more, take_all}
+-- Texts and their bytes.
+use Rattle.std.proofs.Common.{◌≡◌, ℕ, List, sym, ap, ◌∙◌}
 use Rattle.std.proofs.lemmas.Str.{encodes-chars}
 use Rattle.std.specs.Str.{chars, bytes_eq}
 use Rattle.std.proofs.lemmas.Bool.Decides.{same_from_decides, Decides-like}
 use Rattle.std.proofs.lemmas.Slice.Eq.{bytes_eq-Decides}
 use Rattle.tclv_text.specs.Texts.{IsText}
-use Rattle.tclv_engine.specs.Names.{is_qualified, bytes_of}
-
-first-step : (bs rest : List ℕ) (x : ℕ) → bs ≡ x ∷ rest → is_qualified bs ≡ (starts_with nat_eq bs (codes "::") || is_qualified rest)
-first-step bs rest x e = ap is_qualified e ∙ ap (λ y. starts_with nat_eq y (codes "::") || is_qualified rest) (sym e)
-
-pub qualified-step : (bs : List ℕ) (i : ℕ) (b : Bool) → i < length bs → b ≡ starts_with nat_eq (take (length bs - i) (drop i bs)) (codes "::") →
-    is_qualified (drop i bs) ≡ (b || is_qualified (drop (i + 1) bs))
-qualified-step bs i b h e =
-    let whole : take (length bs - i) (drop i bs) ≡ drop i bs = take_all (length bs - i) (drop i bs) (omega (arith, length-drop i bs)) in
-    first-step (drop i bs) (drop (i + 1) bs) (get_or bs i 0) (drop_more bs i 0 h)
-    ∙ ap (λ c. c || is_qualified (drop (i + 1) bs)) (sym (e ∙ ap (λ y. starts_with nat_eq y (codes "::")) whole))
+use Rattle.tclv_engine.specs.Names.{bytes_of}
 
 -- the bytes of a text
 pub bytes-are : (bs t : List ℕ) → IsText bs → chars bs ≡ t → bs ≡ bytes_of t

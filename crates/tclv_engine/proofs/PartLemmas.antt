@@ -29,7 +29,7 @@ module _ {W : Type 0} (levels : ℕ) (ev : (Evaluator W)) (p : Part) (st : (Stat
   pub variable-part : (name : Text) → p ≡ part.Variable name → variable name st ≡ part_value levels ev p st
   variable-part name e = sym (ap (λ x. part_by ev (element levels ev) x st) (ap (λ x. out-Part x) e ∙ variable-opens name))
 
-  pub element-part : (name : Text) (index : List Part) → p ≡ part.Element name index → element levels ev index st ≡ part_value levels ev p st
+  pub element-part : (name : Text) (index : List Part) → p ≡ part.Element name index → element levels ev name index st ≡ part_value levels ev p st
   element-part name index e = sym (ap (λ x. part_by ev (element levels ev) x st) (ap (λ x. out-Part x) e ∙ element-opens name index))
 
   pub script-part : (script : Script) → p ≡ part.Script script → bracketed ev script st ≡ part_value levels ev p st

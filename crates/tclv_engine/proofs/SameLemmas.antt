@@ -1,14 +1,14 @@
 -- Computations that are the same where few units are left.
 use Rattle.std.proofs.Common.{List, ◌≡◌, ◌≤◌, ◌<◌, ◌-◌, ◌++◌, ℕ, zero, suc, arith, refl, subst, ap, ◌∙◌, Bool, true, false, if◌then◌else◌, None, Result, Ok, Err}
 use Rattle.tclv_parse.specs.declared.tree.Script.{Script}
-use Rattle.tclv_vars.specs.declared.places.Place.TheVariants as place
 use Rattle.tclv_vars.specs.declared.faults.VarFault.{VarFault}
-use Rattle.tclv_vars.specs.Table.{Spot, read, write}
+use Rattle.tclv_vars.specs.Table.{Spot}
 use Rattle.tclv_engine.specs.State.{Text, State}
 use Rattle.tclv_engine.specs.Results.{Ending, Done, Left, Budget, Exit, Res, ends, go_on, bind}
-use Rattle.tclv_engine.specs.Names.{bytes_of}
+use Rattle.tclv_reply.specs.Names.{is_qualified, naming, element_of}
+use Rattle.tclv_engine.specs.Names.{bytes_of, read_named, write_named}
 use Rattle.tclv_engine.specs.Units.{take_unit}
-use Rattle.tclv_engine.specs.Variables.{is_unbuilt, read_cell, variable, write_cell, assign}
+use Rattle.tclv_engine.specs.Variables.{is_unbuilt, read_cell, variable, element_name, element_value, write_cell, assign}
 use Rattle.tclv_engine.specs.Words.{Evaluator}
 use Rattle.tclv_engine.proofs.UnitLemmas.{no_unit, some_unit}
 
@@ -85,11 +85,15 @@ read_cell-same n name (Ok cell) st u = with_itself u
 read_cell-same n name (Err f) st u = with_itself u
 
 pub variable_same : {W : Type 0} → (n : ℕ) (name : Text) → Agree {W = W} n (variable name) (variable name)
-variable_same n name st u = if_same (is_unbuilt (bytes_of name)) (with_itself u) (read_cell-same n name (read st.tables.vars place.Frame (bytes_of name) None) st u)
+variable_same n name st u = if_same (is_unbuilt (bytes_of name)) (with_itself u) (read_cell-same n name (read_named st.tables.vars (naming (bytes_of name))) st u)
+
+pub element_value_same : {W : Type 0} → (n : ℕ) (array index : Text) → Agree {W = W} n (element_value array index) (element_value array index)
+element_value_same n array index st u =
+    if_same (is_qualified (bytes_of array)) (with_itself u) (read_cell-same n (element_name array index) (read_named st.tables.vars (element_of (bytes_of array) (bytes_of index))) st u)
 
 write_cell-same : {W : Type 0} → (n : ℕ) (name value : Text) (r : Result Spot VarFault) → Agree {W = W} n (write_cell name value r) (write_cell name value r)
 write_cell-same n name value (Ok spot) st u = with_itself u
 write_cell-same n name value (Err f) st u = with_itself u
 
 pub assign_same : {W : Type 0} → (n : ℕ) (name value : Text) → Agree {W = W} n (assign name value) (assign name value)
-assign_same n name value st u = if_same (is_unbuilt (bytes_of name)) (with_itself u) (write_cell-same n name value (write st.tables.vars place.Frame (bytes_of name) None) st u)
+assign_same n name value st u = if_same (is_unbuilt (bytes_of name)) (with_itself u) (write_cell-same n name value (write_named st.tables.vars (naming (bytes_of name))) st u)

@@ -10,7 +10,7 @@ use Rattle.tclv_engine.specs.declared.endings.Carried.{Carried}
 use Rattle.tclv_model.specs.declared.error_codes.ErrorCode.TheVariants.{NoCode}
 use Rattle.tclv_engine.specs.State.{Text, State}
 use Rattle.tclv_engine.specs.Results.{Res, Outcome, done, bind, outcome, raise}
-use Rattle.tclv_engine.specs.Variables.{not_built}
+use Rattle.tclv_engine.specs.Variables.{element_value}
 use Rattle.tclv_engine.specs.Words.{Evaluator, word, words, joined, part_value, element}
 use Rattle.tclv_engine.specs.Evaluation.{Given, sequence, command, end_of}
 use Rattle.tclv_engine.specs.Answers.{as_outcome, last_of}
@@ -50,17 +50,17 @@ unfolding joined
 joined-one value ps p st e = sym (ap (λ xs. joined value [] xs st) e)
 
 -- an element that has a level left
-pub element-step : {W : Type 0} → (levels : ℕ) (ev : (Evaluator W)) (ps : List Part) (st : (State W)) → 0 < levels →
-    bind (joined (part_value (levels - 1) ev) [] ps st) (λ text s1. not_built s1) ≡ element levels ev ps st
+pub element-step : {W : Type 0} → (levels : ℕ) (ev : (Evaluator W)) (name : Text) (ps : List Part) (st : (State W)) → 0 < levels →
+    bind (joined (part_value (levels - 1) ev) [] ps st) (λ text s1. element_value name text s1) ≡ element levels ev name ps st
 unfolding element
-element-step zero ev ps st h = absurd (omega (arith, h))
-element-step (suc k) ev ps st h =
+element-step zero ev name ps st h = absurd (omega (arith, h))
+element-step (suc k) ev name ps st h =
     let one : suc k - 1 ≡ k = omega arith in
-    ap (λ j. bind (joined (part_value j ev) [] ps st) (λ text s1. not_built s1)) one
+    ap (λ j. bind (joined (part_value j ev) [] ps st) (λ text s1. element_value name text s1)) one
 
-pub element-end : {W : Type 0} → (levels : ℕ) (ev : (Evaluator W)) (ps : List Part) (st : (State W)) → levels ≡ 0 → raise message.TooManyNestedBrackets [] [] NoCode st ≡ element levels ev ps st
+pub element-end : {W : Type 0} → (levels : ℕ) (ev : (Evaluator W)) (name : Text) (ps : List Part) (st : (State W)) → levels ≡ 0 → raise message.TooManyNestedBrackets [] [] NoCode st ≡ element levels ev name ps st
 unfolding element
-element-end levels ev ps st h = sym (ap (λ j. element j ev ps st) h)
+element-end levels ev name ps st h = sym (ap (λ j. element j ev name ps st) h)
 
 -- an outcome that shows is known by the top text and the options
 pub outcome-is : (o : Outcome) (kept : Carried) (stack : List Text) → as_outcome o kept stack → outcome kept (last_of stack) ≡ o

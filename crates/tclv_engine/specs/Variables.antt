@@ -1,10 +1,9 @@
 -- Reading and writing variables.
-use Rattle.std.specs.Prelude.{◌≡◌, ℕ, ◌||◌, Bool, if◌then◌else◌, List, [], None, unwrap_or, Result, Ok, Err}
+use Rattle.std.specs.Prelude.{◌≡◌, ℕ, ◌++◌, codes, Bool, if◌then◌else◌, List, [], unwrap_or, Result, Ok, Err}
 use Rattle.std.specs.FinMap.{get, insert}
-use Rattle.tclv_vars.specs.declared.places.Place.TheVariants as place
 use Rattle.tclv_vars.specs.declared.faults.VarFault.{VarFault}
 use Rattle.tclv_vars.specs.declared.faults.VarFault.TheVariants as fault
-use Rattle.tclv_vars.specs.Table.{Spot, read, write}
+use Rattle.tclv_vars.specs.Table.{Spot}
 use Rattle.tclv_model.specs.declared.messages.MessageId.{MessageId}
 use Rattle.tclv_model.specs.declared.messages.MessageId.TheVariants as message
 use Rattle.tclv_model.specs.declared.error_codes.ErrorCode.{ErrorCode}
@@ -16,11 +15,12 @@ use Rattle.tclv_engine.specs.declared.endings.End.TheVariants as end
 use Rattle.tclv_engine.specs.Results.{Res, done, raise}
 use Rattle.tclv_model.specs.ErrorCodes.{error_code}
 use Rattle.tclv_engine.specs.Answers.{Raises}
-use Rattle.tclv_engine.specs.Names.{bytes_of, is_element, is_qualified}
+use Rattle.tclv_reply.specs.Names.{Naming, naming, element_of}
+use Rattle.tclv_engine.specs.Names.{bytes_of, read_named, write_named}
 
--- Elements of arrays and qualified names aren't built yet.
+-- Qualified names aren't built yet.
 abbrev pub is_unbuilt : List ℕ → Bool
-is_unbuilt name = is_element name || is_qualified name
+is_unbuilt name = (naming name).qualified
 
 abbrev pub not_built : {W A : Type 0} → (State W) → Res W A
 not_built st = raise message.NotBuilt [] [] NoCode st
@@ -45,9 +45,21 @@ abbrev pub read_cell : {W : Type 0} → Text → Result ℕ VarFault → (State 
 read_cell name (Ok cell) st = done (unwrap_or (get (texts_in st) cell) []) st
 read_cell name (Err f) st = raise (reading_message f) name [] (reading_code f) st
 
+-- the value of what is named so; `name` is what a message calls it
+abbrev pub value_of : {W : Type 0} → Text → Naming → (State W) → Res W Text
+value_of name n st = if n.qualified then not_built st else read_cell name (read_named (variables_in st) n) st
+
 -- the value of the variable of this name
 abbrev pub variable : {W : Type 0} → Text → (State W) → Res W Text
-variable name st = if is_unbuilt (bytes_of name) then not_built st else read_cell name (read (variables_in st) place.Frame (bytes_of name) None) st
+variable name st = value_of name (naming (bytes_of name)) st
+
+-- the name of an element, as a script writes it
+abbrev pub element_name : Text → Text → Text
+element_name array index = array ++ codes "(" ++ index ++ codes ")"
+
+-- the value of the element of this array and this index
+abbrev pub element_value : {W : Type 0} → Text → Text → (State W) → Res W Text
+element_value array index st = value_of (element_name array index) (element_of (bytes_of array) (bytes_of index)) st
 
 -- ---- writing
 
@@ -66,6 +78,10 @@ abbrev pub write_cell : {W : Type 0} → Text → Text → Result Spot VarFault 
 write_cell name value (Ok spot) st = done value (with_variables spot.after (insert (texts_in st) spot.cell value) st)
 write_cell name value (Err f) st = raise (setting_message f) name [] NoCode st
 
+-- What is named so is set to a text, which is the value.
+abbrev pub set_to : {W : Type 0} → Text → Text → Naming → (State W) → Res W Text
+set_to name value n st = if n.qualified then not_built st else write_cell name value (write_named (variables_in st) n) st
+
 -- The variable of this name is set to a text, which is the value.
 abbrev pub assign : {W : Type 0} → Text → Text → (State W) → Res W Text
-assign name value st = if is_unbuilt (bytes_of name) then not_built st else write_cell name value (write (variables_in st) place.Frame (bytes_of name) None) st
+assign name value st = set_to name value (naming (bytes_of name)) st

@@ -11,7 +11,7 @@ use Rattle.tclv_engine.specs.State.{Text, State}
 use Rattle.tclv_engine.specs.Results.{Res, Outcome, done, bind, raise}
 use Rattle.tclv_model.specs.Values.{list_of}
 use Rattle.tclv_engine.specs.DataAnswers.{of_answer}
-use Rattle.tclv_engine.specs.Variables.{variable, not_built}
+use Rattle.tclv_engine.specs.Variables.{variable, element_value}
 
 -- What evaluates, as it is handed to what scripts stand in: a script, in an evaluation of its own; and words, which are run as one command, in
 -- an evaluation of its own too.
@@ -24,10 +24,10 @@ abbrev pub bracketed : {W : Type 0} → (Evaluator W) → Script → (State W) �
 bracketed ev s st = bind (ev.script s st) (λ o s1. done o.text s1)
 
 -- The value of a part: a literal is itself, a variable is read, and a script runs. An element's value is given by `element`.
-abbrev pub part_by : {W : Type 0} → (Evaluator W) → (List Part → (State W) → Res W Text) → part.Part-F Part Command Script Word → (State W) → Res W Text
+abbrev pub part_by : {W : Type 0} → (Evaluator W) → (Text → List Part → (State W) → Res W Text) → part.Part-F Part Command Script Word → (State W) → Res W Text
 part_by ev element (part.Literal text) st = done text st
 part_by ev element (part.Variable name) st = variable name st
-part_by ev element (part.Element name index) st = element index st
+part_by ev element (part.Element name index) st = element name index st
 part_by ev element (part.Script script) st = bracketed ev script st
 
 -- The parts from left to right, each once, joined; `before` is the text so far.
@@ -35,10 +35,10 @@ unfoldable pub joined : {W : Type 0} → (Part → (State W) → Res W Text) →
 joined value before [] st = done before st
 joined value before (p ∷ ps) st = bind (value p st) (λ text s1. joined value (before ++ text) ps s1)
 
--- An element is read after its index was substituted; elements aren't built yet. An index may hold elements at so many levels.
-unfoldable pub element : {W : Type 0} → ℕ → (Evaluator W) → List Part → (State W) → Res W Text
-element zero ev index st = raise message.TooManyNestedBrackets [] [] NoCode st
-element (suc levels) ev index st = bind (joined (λ p s. part_by ev (element levels ev) (out-Part p) s) [] index st) (λ text s1. not_built s1)
+-- An element of the array of this name is read after its index was substituted. An index may hold elements at so many levels.
+unfoldable pub element : {W : Type 0} → ℕ → (Evaluator W) → Text → List Part → (State W) → Res W Text
+element zero ev name index st = raise message.TooManyNestedBrackets [] [] NoCode st
+element (suc levels) ev name index st = bind (joined (λ p s. part_by ev (element levels ev) (out-Part p) s) [] index st) (λ text s1. element_value name text s1)
 
 abbrev pub part_value : {W : Type 0} → ℕ → (Evaluator W) → Part → (State W) → Res W Text
 part_value levels ev p st = part_by ev (element levels ev) (out-Part p) st

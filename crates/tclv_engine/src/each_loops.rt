@@ -38,7 +38,8 @@ impl<W> Machine<W> {
         requires groups { All (steps.GroupInside self.old.values.store.stack) groups.now }
         requires fits { H.fits self.old.own (O.told out.old) ≡ true }
         ensures answer { let groups = steps.groups_at self.old.values.store.stack groups.now in
-            AnswersOver (rows.each_turn (whole H.given) script.now groups turn) loops.as_turn self.old (outer (O.told out.old) (O.torn out.old)) result self.new (outer (O.told out.new) (O.torn out.new)) }
+            AnswersOver (rows.each_turn (whole H.given) script.now groups turn) loops.as_turn self.old
+            (outer (O.told out.old) (O.torn out.old)) result self.new (outer (O.told out.new) (O.torn out.new)) }
         ensures stack { Leaves (loops.TurnLeaves self.old.values.store.stack) self.old.values.store.stack result self.new.values.store.stack }
         ensures cause { Caused (O.faults out.old) (O.faults out.new) result }
         ensures units { self.new.units ≤ self.old.units }
@@ -80,7 +81,8 @@ impl<W> Machine<W> {
         requires groups { All (steps.GroupInside self.old.values.store.stack) groups.now }
         requires fits { H.fits self.old.own (O.told out.old) ≡ true }
         ensures answer { let base = self.old.values.store.stack in
-            AnswersOver (rows.each_turns (rows.each_turn (whole H.given) script.now (steps.groups_at base groups.now)) count 0 []) (steps.kept keep base) self.old (outer (O.told out.old) (O.torn out.old)) result self.new (outer (O.told out.new) (O.torn out.new)) }
+            AnswersOver (rows.each_turns (rows.each_turn (whole H.given) script.now (steps.groups_at base groups.now)) count 0 [])
+            (steps.kept keep base) self.old (outer (O.told out.old) (O.torn out.old)) result self.new (outer (O.told out.new) (O.torn out.new)) }
         ensures stack { PushesWords self.old.values.store.stack result self.new.values.store.stack }
         ensures cause { Caused (O.faults out.old) (O.faults out.new) result }
         ensures units { self.new.units ≤ self.old.units }
@@ -112,7 +114,8 @@ impl<W> Machine<W> {
         requires groups { All (steps.GroupInside self.old.values.store.stack) groups.now }
         requires fits { H.fits self.old.own (O.told out.old) ≡ true }
         ensures answer { let groups = steps.groups_at self.old.values.store.stack groups.now in
-            AnswersOver (rows.each_of (rows.result_of keep) (whole H.given) (text_at self.old.values.store (At.Stack body)) groups) as_outcome self.old (outer (O.told out.old) (O.torn out.old)) result self.new (outer (O.told out.new) (O.torn out.new)) }
+            AnswersOver (rows.each_of (rows.result_of keep) (whole H.given) (text_at self.old.values.store (At.Stack body)) groups)
+            as_outcome self.old (outer (O.told out.old) (O.torn out.old)) result self.new (outer (O.told out.new) (O.torn out.new)) }
         ensures stack { PushesOne self.old.values.store.stack result self.new.values.store.stack }
         ensures cause { Caused (O.faults out.old) (O.faults out.new) result }
         ensures units { self.new.units ≤ self.old.units }

@@ -37,7 +37,8 @@ impl<W> Machine<W> {
         script: &Script,
     ) -> Result<Carried, End>
         requires fits { H.fits self.old.own (O.told out.old) ≡ true }
-        ensures answer { AnswersOver ((whole H.given).script script.now) as_outcome self.old (outer (O.told out.old) (O.torn out.old)) result self.new (outer (O.told out.new) (O.torn out.new)) }
+        ensures answer { AnswersOver ((whole H.given).script script.now) as_outcome self.old (outer (O.told out.old) (O.torn out.old)) result self.new
+            (outer (O.told out.new) (O.torn out.new)) }
         ensures stack { PushesOne self.old.values.store.stack result self.new.values.store.stack }
         ensures cause { Caused (O.faults out.old) (O.faults out.new) result }
         ensures units { self.new.units ≤ self.old.units }
@@ -68,7 +69,8 @@ impl<W> Machine<W> {
         fault: Option<ParseFault>,
     ) -> Result<Carried, End>
         requires fits { H.fits self.old.own (O.told out.old) ≡ true }
-        ensures answer { AnswersOver (spec.sequence H.given (whole H.given) (plain []) commands.now fault) as_outcome self.old (outer (O.told out.old) (O.torn out.old)) result self.new (outer (O.told out.new) (O.torn out.new)) }
+        ensures answer { AnswersOver (spec.sequence H.given (whole H.given) (plain []) commands.now fault) as_outcome self.old
+            (outer (O.told out.old) (O.torn out.old)) result self.new (outer (O.told out.new) (O.torn out.new)) }
         ensures stack { PushesOne self.old.values.store.stack result self.new.values.store.stack }
         ensures cause { Caused (O.faults out.old) (O.faults out.new) result }
         ensures units { self.new.units ≤ self.old.units }
@@ -93,7 +95,8 @@ impl<W> Machine<W> {
     ) -> Result<Carried, End>
         requires place { HasPlace self.old.values.store at }
         requires fits { H.fits self.old.own (O.told out.old) ≡ true }
-        ensures answer { AnswersOver (spec.text (whole H.given) (text_at self.old.values.store at)) as_outcome self.old (outer (O.told out.old) (O.torn out.old)) result self.new (outer (O.told out.new) (O.torn out.new)) }
+        ensures answer { AnswersOver (spec.text (whole H.given) (text_at self.old.values.store at)) as_outcome self.old
+            (outer (O.told out.old) (O.torn out.old)) result self.new (outer (O.told out.new) (O.torn out.new)) }
         ensures stack { PushesOne self.old.values.store.stack result self.new.values.store.stack }
         ensures cause { Caused (O.faults out.old) (O.faults out.new) result }
         ensures units { self.new.units ≤ self.old.units }
@@ -112,7 +115,8 @@ impl<W> Machine<W> {
         command: &Command,
     ) -> Result<Carried, End>
         requires fits { H.fits self.old.own (O.told out.old) ≡ true }
-        ensures answer { AnswersOver (spec.command H.given (whole H.given) command.now) as_outcome self.old (outer (O.told out.old) (O.torn out.old)) result self.new (outer (O.told out.new) (O.torn out.new)) }
+        ensures answer { AnswersOver (spec.command H.given (whole H.given) command.now) as_outcome self.old
+            (outer (O.told out.old) (O.torn out.old)) result self.new (outer (O.told out.new) (O.torn out.new)) }
         ensures stack { PushesOne self.old.values.store.stack result self.new.values.store.stack }
         ensures cause { Caused (O.faults out.old) (O.faults out.new) result }
         ensures units { self.new.units ≤ self.old.units }
@@ -137,7 +141,8 @@ impl<W> Machine<W> {
     ) -> Result<Carried, End>
         requires words { n ≤ length self.old.values.store.stack }
         requires fits { H.fits self.old.own (O.told out.old) ≡ true }
-        ensures answer { AnswersOver (spec.call H.given (whole H.given) (top n self.old.values.store.stack)) as_outcome self.old (outer (O.told out.old) (O.torn out.old)) result self.new (outer (O.told out.new) (O.torn out.new)) }
+        ensures answer { AnswersOver (spec.call H.given (whole H.given) (top n self.old.values.store.stack)) as_outcome self.old
+            (outer (O.told out.old) (O.torn out.old)) result self.new (outer (O.told out.new) (O.torn out.new)) }
         ensures stack { PushesResult (under n self.old.values.store.stack) result self.new.values.store.stack }
         ensures cause { Caused (O.faults out.old) (O.faults out.new) result }
         ensures units { self.new.units ≤ self.old.units }
@@ -161,7 +166,8 @@ impl<W> Machine<W> {
         words: &Items<Word>,
     ) -> Result<(), End>
         requires fits { H.fits self.old.own (O.told out.old) ≡ true }
-        ensures answer { AnswersOver (meaning.words (whole H.given) [] words.now) (stacked self.old.values.store.stack) self.old (outer (O.told out.old) (O.torn out.old)) result self.new (outer (O.told out.new) (O.torn out.new)) }
+        ensures answer { AnswersOver (meaning.words (whole H.given) [] words.now) (stacked self.old.values.store.stack) self.old
+            (outer (O.told out.old) (O.torn out.old)) result self.new (outer (O.told out.new) (O.torn out.new)) }
         ensures stack { PushesWords self.old.values.store.stack result self.new.values.store.stack }
         ensures cause { Caused (O.faults out.old) (O.faults out.new) result }
         ensures units { self.new.units ≤ self.old.units }
@@ -182,7 +188,8 @@ impl<W> Machine<W> {
         word: &Word,
     ) -> Result<(), End>
         requires fits { H.fits self.old.own (O.told out.old) ≡ true }
-        ensures answer { AnswersOver (meaning.word (whole H.given) word.now) (stacked self.old.values.store.stack) self.old (outer (O.told out.old) (O.torn out.old)) result self.new (outer (O.told out.new) (O.torn out.new)) }
+        ensures answer { AnswersOver (meaning.word (whole H.given) word.now) (stacked self.old.values.store.stack) self.old
+            (outer (O.told out.old) (O.torn out.old)) result self.new (outer (O.told out.new) (O.torn out.new)) }
         ensures stack { PushesWords self.old.values.store.stack result self.new.values.store.stack }
         ensures cause { Caused (O.faults out.old) (O.faults out.new) result }
         ensures units { self.new.units ≤ self.old.units }
@@ -205,7 +212,8 @@ impl<W> Machine<W> {
         levels: u8,
     ) -> Result<(), End>
         requires fits { H.fits self.old.own (O.told out.old) ≡ true }
-        ensures answer { AnswersOver (meaning.joined (meaning.part_value levels (whole H.given)) [] parts.now) on_top self.old (outer (O.told out.old) (O.torn out.old)) result self.new (outer (O.told out.new) (O.torn out.new)) }
+        ensures answer { AnswersOver (meaning.joined (meaning.part_value levels (whole H.given)) [] parts.now) on_top self.old
+            (outer (O.told out.old) (O.torn out.old)) result self.new (outer (O.told out.new) (O.torn out.new)) }
         ensures stack { PushesOne self.old.values.store.stack result self.new.values.store.stack }
         ensures cause { Caused (O.faults out.old) (O.faults out.new) result }
         ensures units { self.new.units ≤ self.old.units }
@@ -232,7 +240,8 @@ impl<W> Machine<W> {
         levels: u8,
     ) -> Result<(), End>
         requires fits { H.fits self.old.own (O.told out.old) ≡ true }
-        ensures answer { AnswersOver (meaning.part_value levels (whole H.given) part.now) on_top self.old (outer (O.told out.old) (O.torn out.old)) result self.new (outer (O.told out.new) (O.torn out.new)) }
+        ensures answer { AnswersOver (meaning.part_value levels (whole H.given) part.now) on_top self.old
+            (outer (O.told out.old) (O.torn out.old)) result self.new (outer (O.told out.new) (O.torn out.new)) }
         ensures stack { PushesOne self.old.values.store.stack result self.new.values.store.stack }
         ensures cause { Caused (O.faults out.old) (O.faults out.new) result }
         ensures units { self.new.units ≤ self.old.units }
@@ -241,7 +250,7 @@ impl<W> Machine<W> {
         match part {
             Part::Literal(text) => self.push_text(text.bytes()),
             Part::Variable(name) => self.push_variable(name.bytes()),
-            Part::Element(_, index) => self.element(host, out, index, levels),
+            Part::Element(name, index) => self.element(host, out, name, index, levels),
             Part::Script(script) => {
                 self.script(host, out, script.get())?;
                 Ok(())
@@ -249,17 +258,19 @@ impl<W> Machine<W> {
         }
     }
 
-    /// The element of an index, which isn't built yet.
+    /// Pushes the value of an element, by its array's name and its index.
     #[cycle(eval)]
     fn element<H: Host<Own = W>, O: Outside>(
         &mut self,
         host: &H,
         out: &mut O,
+        name: &Text,
         index: &Items<Part>,
         levels: u8,
     ) -> Result<(), End>
         requires fits { H.fits self.old.own (O.told out.old) ≡ true }
-        ensures answer { AnswersOver (meaning.element levels (whole H.given) index.now) on_top self.old (outer (O.told out.old) (O.torn out.old)) result self.new (outer (O.told out.new) (O.torn out.new)) }
+        ensures answer { AnswersOver (meaning.element levels (whole H.given) name.now index.now) on_top self.old
+            (outer (O.told out.old) (O.torn out.old)) result self.new (outer (O.told out.new) (O.torn out.new)) }
         ensures stack { PushesOne self.old.values.store.stack result self.new.values.store.stack }
         ensures cause { Caused (O.faults out.old) (O.faults out.new) result }
         ensures units { self.new.units ≤ self.old.units }
@@ -274,6 +285,6 @@ impl<W> Machine<W> {
             ));
         }
         self.substitute(host, out, index, levels - 1)?;
-        Err(self.not_built())
+        self.put_element(name.bytes())
     }
 }

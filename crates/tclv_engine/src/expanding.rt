@@ -17,7 +17,8 @@ impl<W> Machine<W> {
     /// error. (Tcl: Tcl(n), argument expansion.)
     pub fn expand(&mut self) -> Result<(), End>
         requires { 0 < length self.old.values.store.stack }
-        ensures answer { Answers (of_answer (list_of (last_of self.old.values.store.stack))) (stacked (under 1 self.old.values.store.stack)) self.old result self.new }
+        ensures answer { Answers (of_answer (list_of (last_of self.old.values.store.stack)))
+            (stacked (under 1 self.old.values.store.stack)) self.old result self.new }
         ensures stack { PushesWords (under 1 self.old.values.store.stack) result self.new.values.store.stack }
         ensures calm { IsCalm result }
         ensures units { self.new.units ≤ self.old.units }
@@ -40,7 +41,8 @@ impl<W> Machine<W> {
         requires list { IsList (text_at self.old.values.store (At.Stack list)) }
         requires len { len ≡ length (listed (text_at self.old.values.store (At.Stack list))) }
         requires some { 0 < len }
-        ensures unrolled { OnOk result (self.new.values.store.stack ≡ under 1 self.old.values.store.stack ++ listed (text_at self.old.values.store (At.Stack list))) }
+        ensures unrolled { OnOk result (self.new.values.store.stack ≡ under 1 self.old.values.store.stack
+            ++ listed (text_at self.old.values.store (At.Stack list))) }
         ensures same { SameState self.old self.new }
     {
         self.push_elements(list, 1, len)?;

@@ -66,7 +66,8 @@ impl<W> Machine<W> {
     // The error of a word or number in the text of a place.
     fn raise_named(&mut self, kind: MessageId, text: At, at: usize, len: usize) -> End
         requires { HasPlace self.old.values.store text }
-        ensures raises { Raises (text_of kind (faults.named_at at len (text_at self.old.values.store text)) (chars [])) (error_code ErrorCode.NoCode (faults.named_at at len (text_at self.old.values.store text))) self.new.values.store.stack result }
+        ensures raises { Raises (text_of kind (faults.named_at at len (text_at self.old.values.store text)) (chars []))
+            (error_code ErrorCode.NoCode (faults.named_at at len (text_at self.old.values.store text))) self.new.values.store.stack result }
         ensures same { SameState self.old self.new }
         ensures stack { KeepsStack {T = Unit {0}} self.old.values.store.stack (Err result) self.new.values.store.stack }
     {
@@ -81,7 +82,9 @@ impl<W> Machine<W> {
     // The error of a word in the text of a place that is no operand.
     fn raise_bareword(&mut self, text: At, at: usize, len: usize) -> End
         requires { HasPlace self.old.values.store text }
-        ensures raises { Raises (text_of MessageId.InvalidBareword (faults.named_at at len (text_at self.old.values.store text)) (text_at self.old.values.store text)) (error_code ErrorCode.NoCode (faults.named_at at len (text_at self.old.values.store text))) self.new.values.store.stack result }
+        ensures raises { Raises (text_of MessageId.InvalidBareword (faults.named_at at len (text_at self.old.values.store text))
+            (text_at self.old.values.store text)) (error_code ErrorCode.NoCode
+            (faults.named_at at len (text_at self.old.values.store text))) self.new.values.store.stack result }
         ensures same { SameState self.old self.new }
         ensures stack { KeepsStack {T = Unit {0}} self.old.values.store.stack (Err result) self.new.values.store.stack }
     {

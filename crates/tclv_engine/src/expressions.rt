@@ -51,7 +51,8 @@ impl<W> Machine<W> {
     ) -> Result<bool, End>
         requires shape { run.Fits instructions.now 0 0 }
         requires fits { H.fits self.old.own (O.told out.old) ≡ true }
-        ensures answer { AnswersOver (run.run_test (whole H.given) instructions.now) returned self.old (outer (O.told out.old) (O.torn out.old)) result self.new (outer (O.told out.new) (O.torn out.new)) }
+        ensures answer { AnswersOver (run.run_test (whole H.given) instructions.now) returned self.old
+            (outer (O.told out.old) (O.torn out.old)) result self.new (outer (O.told out.new) (O.torn out.new)) }
         ensures stack { KeepsStack self.old.values.store.stack result self.new.values.store.stack }
         ensures cause { Caused (O.faults out.old) (O.faults out.new) result }
         ensures units { self.new.units ≤ self.old.units }
@@ -71,7 +72,8 @@ impl<W> Machine<W> {
     ) -> Result<(), End>
         requires shape { run.Fits instructions.now 0 0 }
         requires fits { H.fits self.old.own (O.told out.old) ≡ true }
-        ensures answer { AnswersOver (run.run_result (whole H.given) instructions.now) on_top self.old (outer (O.told out.old) (O.torn out.old)) result self.new (outer (O.told out.new) (O.torn out.new)) }
+        ensures answer { AnswersOver (run.run_result (whole H.given) instructions.now) on_top self.old
+            (outer (O.told out.old) (O.torn out.old)) result self.new (outer (O.told out.new) (O.torn out.new)) }
         ensures stack { PushesOne self.old.values.store.stack result self.new.values.store.stack }
         ensures cause { Caused (O.faults out.old) (O.faults out.new) result }
         ensures units { self.new.units ≤ self.old.units }
@@ -95,8 +97,10 @@ impl<W> Machine<W> {
     ) -> Result<usize, End>
         requires needs { run.needs instruction.now ≤ length self.old.values.store.stack }
         requires fits { H.fits self.old.own (O.told out.old) ≡ true }
-        ensures answer { AnswersOver (run.does (whole H.given) instruction.now self.old.values.store.stack) run.as_next self.old (outer (O.told out.old) (O.torn out.old)) result self.new (outer (O.told out.new) (O.torn out.new)) }
-        ensures stack { Leaves (run.Stands instruction.now self.old.values.store.stack) (run.kept instruction.now self.old.values.store.stack) result self.new.values.store.stack }
+        ensures answer { AnswersOver (run.does (whole H.given) instruction.now self.old.values.store.stack) run.as_next self.old
+            (outer (O.told out.old) (O.torn out.old)) result self.new (outer (O.told out.new) (O.torn out.new)) }
+        ensures stack { Leaves (run.Stands instruction.now self.old.values.store.stack)
+            (run.kept instruction.now self.old.values.store.stack) result self.new.values.store.stack }
         ensures cause { Caused (O.faults out.old) (O.faults out.new) result }
         ensures units { self.new.units ≤ self.old.units }
         ensures fits { H.fits self.new.own (O.told out.new) ≡ true }
@@ -119,7 +123,8 @@ impl<W> Machine<W> {
     fn jump(&mut self, wanted: bool, n: usize) -> Result<usize, End>
         requires { 0 < length self.old.values.store.stack }
         ensures answer { Answers (run.jump wanted n self.old.values.store.stack) run.as_next self.old result self.new }
-        ensures stack { Leaves (run.Stands (Instruction.SkipIf wanted n) self.old.values.store.stack) self.old.values.store.stack result self.new.values.store.stack }
+        ensures stack { Leaves (run.Stands (Instruction.SkipIf wanted n) self.old.values.store.stack)
+            self.old.values.store.stack result self.new.values.store.stack }
         ensures calm { IsCalm result }
         ensures units { self.new.units ≤ self.old.units }
         ensures own { self.new.own ≡ self.old.own }
@@ -139,7 +144,8 @@ impl<W> Machine<W> {
     ) -> Result<(), End>
         requires takes { run.takes operation.now ≤ length self.old.values.store.stack }
         requires fits { H.fits self.old.own (O.told out.old) ≡ true }
-        ensures answer { AnswersOver (run.operated (whole H.given) operation.now self.old.values.store.stack) on_top self.old (outer (O.told out.old) (O.torn out.old)) result self.new (outer (O.told out.new) (O.torn out.new)) }
+        ensures answer { AnswersOver (run.operated (whole H.given) operation.now self.old.values.store.stack) on_top self.old
+            (outer (O.told out.old) (O.torn out.old)) result self.new (outer (O.told out.new) (O.torn out.new)) }
         ensures stack { PushesOne (under (run.takes operation.now) self.old.values.store.stack) result self.new.values.store.stack }
         ensures cause { Caused (O.faults out.old) (O.faults out.new) result }
         ensures units { self.new.units ≤ self.old.units }

@@ -91,7 +91,8 @@ impl<W> Machine<W> {
     // The error of a wrong number of arguments.
     fn wrong_count(&mut self, name: &[u8]) -> End
         requires { IsText name.now }
-        ensures raises { Raises (text_of MessageId.WrongMathFunctionArguments (chars name.now) (chars [])) (error_code ErrorCode.NoCode (chars name.now)) self.new.values.store.stack result }
+        ensures raises { Raises (text_of MessageId.WrongMathFunctionArguments (chars name.now) (chars []))
+            (error_code ErrorCode.NoCode (chars name.now)) self.new.values.store.stack result }
         ensures same { SameState self.old self.new }
         ensures stack { KeepsStack {T = Unit {0}} self.old.values.store.stack (Err result) self.new.values.store.stack }
     {

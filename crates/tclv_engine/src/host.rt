@@ -37,8 +37,10 @@ pub trait Host {
         requires words { n ≤ length machine.old.values.store.stack }
         requires some { 0 < n }
         requires fits { fits machine.old.own (O.told out.old) ≡ true }
-        ensures answer { AnswersOver (given.plan (top n machine.old.values.store.stack)) as_plan machine.old (outer (O.told out.old) (O.torn out.old)) result machine.new (outer (O.told out.new) (O.torn out.new)) }
-        ensures stack { Leaves (PlanOver (under n machine.old.values.store.stack)) (under n machine.old.values.store.stack) result machine.new.values.store.stack }
+        ensures answer { AnswersOver (given.plan (top n machine.old.values.store.stack)) as_plan machine.old
+            (outer (O.told out.old) (O.torn out.old)) result machine.new (outer (O.told out.new) (O.torn out.new)) }
+        ensures stack { Leaves (PlanOver (under n machine.old.values.store.stack))
+            (under n machine.old.values.store.stack) result machine.new.values.store.stack }
         ensures cause { Caused (O.faults out.old) (O.faults out.new) result }
         ensures units { machine.new.units ≡ machine.old.units }
         ensures fits { fits machine.new.own (O.told out.new) ≡ true };
@@ -53,8 +55,10 @@ pub trait Host {
     ) -> Result<Plan<Self::Behind>, End>
         requires some { 0 < length machine.old.values.store.stack }
         requires fits { fits machine.old.own (O.told out.old) ≡ true }
-        ensures answer { AnswersOver (given.finish behind (concluded ended (last_of machine.old.values.store.stack))) as_plan machine.old (outer (O.told out.old) (O.torn out.old)) result machine.new (outer (O.told out.new) (O.torn out.new)) }
-        ensures stack { Leaves (PlanOver (under 1 machine.old.values.store.stack)) (under 1 machine.old.values.store.stack) result machine.new.values.store.stack }
+        ensures answer { AnswersOver (given.finish behind (concluded ended (last_of machine.old.values.store.stack))) as_plan machine.old
+            (outer (O.told out.old) (O.torn out.old)) result machine.new (outer (O.told out.new) (O.torn out.new)) }
+        ensures stack { Leaves (PlanOver (under 1 machine.old.values.store.stack))
+            (under 1 machine.old.values.store.stack) result machine.new.values.store.stack }
         ensures cause { Caused (O.faults out.old) (O.faults out.new) result }
         ensures units { machine.new.units ≡ machine.old.units }
         ensures fits { fits machine.new.own (O.told out.new) ≡ true };

@@ -20,7 +20,8 @@ impl<W> Machine<W> {
     /// How many elements the list has that the text of a place is. A text that is no list is an error.
     pub fn list_len(&mut self, list: At) -> Result<u64, End>
         requires { HasPlace self.old.values.store list }
-        ensures answer { Answers (of_answer (list_of (text_at self.old.values.store list))) (spec.counted (text_at self.old.values.store list)) self.old result self.new }
+        ensures answer { Answers (of_answer (list_of (text_at self.old.values.store list)))
+            (spec.counted (text_at self.old.values.store list)) self.old result self.new }
         ensures list { OnOk result (spec.IsList (text_at self.old.values.store list)) }
         ensures len { IfOk result (λ len. len ≡ length (spec.listed (text_at self.old.values.store list))) }
         ensures stack { KeepsStack self.old.values.store.stack result self.new.values.store.stack }
@@ -41,7 +42,8 @@ impl<W> Machine<W> {
         requires place { list < length self.old.values.store.stack }
         requires list { spec.IsList (text_at self.old.values.store (At.Stack list)) }
         ensures found { IfOk result (λ found. IsTrue found ↔ (k < length (spec.listed (text_at self.old.values.store (At.Stack list))))) }
-        ensures pushed { OnOk result (self.new.values.store.stack ≡ self.old.values.store.stack ++ option_to_list (slice_get (spec.listed (text_at self.old.values.store (At.Stack list))) k)) }
+        ensures pushed { OnOk result (self.new.values.store.stack ≡ self.old.values.store.stack
+            ++ option_to_list (slice_get (spec.listed (text_at self.old.values.store (At.Stack list))) k)) }
         ensures same { SameState self.old self.new }
     {
         match self.values.push_element(At::Stack(list), k) {
@@ -57,7 +59,8 @@ impl<W> Machine<W> {
         requires list { spec.IsList (text_at self.old.values.store (At.Stack list)) }
         requires order { from ≤ len }
         requires len { len ≡ length (spec.listed (text_at self.old.values.store (At.Stack list))) }
-        ensures pushed { OnOk result (self.new.values.store.stack ≡ self.old.values.store.stack ++ drop from (spec.listed (text_at self.old.values.store (At.Stack list)))) }
+        ensures pushed { OnOk result (self.new.values.store.stack ≡ self.old.values.store.stack
+            ++ drop from (spec.listed (text_at self.old.values.store (At.Stack list)))) }
         ensures same { SameState self.old self.new }
     {
         for i in from..len {
@@ -72,7 +75,8 @@ impl<W> Machine<W> {
         requires place { list < length self.old.values.store.stack }
         requires list { spec.IsList (text_at self.old.values.store (At.Stack list)) }
         ensures answer { Answers (done (slice_index_or (spec.listed (text_at self.old.values.store (At.Stack list))) i [])) on_top self.old result self.new }
-        ensures stack { Pushes (slice_index_or (spec.listed (text_at self.old.values.store (At.Stack list))) i []) self.old.values.store.stack result self.new.values.store.stack }
+        ensures stack { Pushes (slice_index_or (spec.listed
+            (text_at self.old.values.store (At.Stack list))) i []) self.old.values.store.stack result self.new.values.store.stack }
         ensures calm { IsCalm result }
         ensures units { self.new.units ≡ self.old.units }
         ensures same { SameState self.old self.new }
@@ -90,7 +94,8 @@ impl<W> Machine<W> {
         requires name { name < length self.old.values.store.stack }
         requires place { list < length self.old.values.store.stack }
         requires list { spec.IsList (text_at self.old.values.store (At.Stack list)) }
-        ensures answer { Answers (assign (text_at self.old.values.store (At.Stack name)) (slice_index_or (spec.listed (text_at self.old.values.store (At.Stack list))) i [])) spec.unseen self.old result self.new }
+        ensures answer { Answers (assign (text_at self.old.values.store (At.Stack name))
+            (slice_index_or (spec.listed (text_at self.old.values.store (At.Stack list))) i [])) spec.unseen self.old result self.new }
         ensures stack { KeepsStack self.old.values.store.stack result self.new.values.store.stack }
         ensures calm { IsCalm result }
         ensures units { self.new.units ≡ self.old.units }
@@ -110,7 +115,8 @@ impl<W> Machine<W> {
         requires places { to ≤ length self.old.values.store.stack }
         requires place { list < length self.old.values.store.stack }
         requires list { spec.IsList (text_at self.old.values.store (At.Stack list)) }
-        ensures answer { Answers (spec.assign_each (take (to - from) (drop from self.old.values.store.stack)) (spec.listed (text_at self.old.values.store (At.Stack list)))) spec.unseen self.old result self.new }
+        ensures answer { Answers (spec.assign_each (take (to - from) (drop from self.old.values.store.stack))
+            (spec.listed (text_at self.old.values.store (At.Stack list)))) spec.unseen self.old result self.new }
         ensures stack { KeepsStack self.old.values.store.stack result self.new.values.store.stack }
         ensures calm { IsCalm result }
         ensures units { self.new.units ≡ self.old.units }

@@ -34,7 +34,8 @@ impl<W> Machine<W> {
         script: &Script,
     ) -> Result<BodyEnd, End>
         requires fits { H.fits self.old.own (O.told out.old) ≡ true }
-        ensures answer { AnswersOver (loops.body (whole H.given) script.now) loops.as_turn self.old (outer (O.told out.old) (O.torn out.old)) result self.new (outer (O.told out.new) (O.torn out.new)) }
+        ensures answer { AnswersOver (loops.body (whole H.given) script.now) loops.as_turn self.old
+            (outer (O.told out.old) (O.torn out.old)) result self.new (outer (O.told out.new) (O.torn out.new)) }
         ensures stack { Leaves (loops.TurnLeaves self.old.values.store.stack) self.old.values.store.stack result self.new.values.store.stack }
         ensures cause { Caused (O.faults out.old) (O.faults out.new) result }
         ensures units { self.new.units ≤ self.old.units }
@@ -93,7 +94,8 @@ impl<W> Machine<W> {
         script: &Script,
     ) -> Result<bool, End>
         requires fits { H.fits self.old.own (O.told out.old) ≡ true }
-        ensures answer { AnswersOver (loops.paid_body (whole H.given) script.now) returned self.old (outer (O.told out.old) (O.torn out.old)) result self.new (outer (O.told out.new) (O.torn out.new)) }
+        ensures answer { AnswersOver (loops.paid_body (whole H.given) script.now) returned self.old
+            (outer (O.told out.old) (O.torn out.old)) result self.new (outer (O.told out.new) (O.torn out.new)) }
         ensures stack { KeepsStack self.old.values.store.stack result self.new.values.store.stack }
         ensures cause { Caused (O.faults out.old) (O.faults out.new) result }
         ensures units { self.new.units ≤ self.old.units }
@@ -134,7 +136,8 @@ impl<W> Machine<W> {
         script: &Script,
     ) -> Result<bool, End>
         requires fits { H.fits self.old.own (O.told out.old) ≡ true }
-        ensures answer { AnswersOver (loops.between_turns (whole H.given) script.now) returned self.old (outer (O.told out.old) (O.torn out.old)) result self.new (outer (O.told out.new) (O.torn out.new)) }
+        ensures answer { AnswersOver (loops.between_turns (whole H.given) script.now) returned self.old
+            (outer (O.told out.old) (O.torn out.old)) result self.new (outer (O.told out.new) (O.torn out.new)) }
         ensures stack { KeepsStack self.old.values.store.stack result self.new.values.store.stack }
         ensures cause { Caused (O.faults out.old) (O.faults out.new) result }
         ensures units { self.new.units ≤ self.old.units }

@@ -398,7 +398,8 @@ impl<W> Machine<W> {
     // Puts what an operator gives of their numbers in place of the top two texts.
     fn arithmetic(&mut self, op: Op2) -> Result<(), End>
         requires { 2 ≤ length self.old.values.store.stack }
-        ensures answer { Answers (spec.arithmetic op (spec.second_of self.old.values.store.stack) (last_of self.old.values.store.stack)) on_top self.old result self.new }
+        ensures answer { Answers (spec.arithmetic op (spec.second_of self.old.values.store.stack)
+            (last_of self.old.values.store.stack)) on_top self.old result self.new }
         ensures stack { PushesOne (under 2 self.old.values.store.stack) result self.new.values.store.stack }
         ensures calm { IsCalm result }
         ensures units { self.new.units ≤ self.old.units }
@@ -426,7 +427,9 @@ impl<W> Machine<W> {
     // Compares the top two texts by code points, and puts 1 or 0 in place of them.
     fn compare_texts(&mut self, op: Op2) -> Result<(), End>
         requires { 2 ≤ length self.old.values.store.stack }
-        ensures answer { Answers (spec.truth_number (spec.holds op (spec.order (spec.second_of self.old.values.store.stack) (last_of self.old.values.store.stack)))) on_top self.old result self.new }
+        ensures answer { Answers (spec.truth_number
+            (spec.holds op (spec.order (spec.second_of self.old.values.store.stack)
+            (last_of self.old.values.store.stack)))) on_top self.old result self.new }
         ensures stack { PushesOne (under 2 self.old.values.store.stack) result self.new.values.store.stack }
         ensures calm { IsCalm result }
         ensures units { self.new.units ≤ self.old.units }
@@ -463,7 +466,8 @@ impl<W> Machine<W> {
     // Compares numbers of which one is of floating form.
     fn compare_floats(&mut self, op: Op2) -> Result<(), End>
         requires { 2 ≤ length self.old.values.store.stack }
-        ensures answer { Answers (spec.compared op (spec.second_of self.old.values.store.stack) (last_of self.old.values.store.stack) Comparands.Floats) on_top self.old result self.new }
+        ensures answer { Answers (spec.compared op (spec.second_of self.old.values.store.stack)
+            (last_of self.old.values.store.stack) Comparands.Floats) on_top self.old result self.new }
         ensures stack { PushesOne (under 2 self.old.values.store.stack) result self.new.values.store.stack }
         ensures calm { IsCalm result }
         ensures units { self.new.units ≤ self.old.units }
@@ -479,7 +483,8 @@ impl<W> Machine<W> {
     // Compares whole numbers of which one needs more than 64 bits.
     fn compare_large(&mut self, op: Op2) -> Result<(), End>
         requires { 2 ≤ length self.old.values.store.stack }
-        ensures answer { Answers (spec.compared op (spec.second_of self.old.values.store.stack) (last_of self.old.values.store.stack) Comparands.LargeNumbers) on_top self.old result self.new }
+        ensures answer { Answers (spec.compared op (spec.second_of self.old.values.store.stack)
+            (last_of self.old.values.store.stack) Comparands.LargeNumbers) on_top self.old result self.new }
         ensures stack { PushesOne (under 2 self.old.values.store.stack) result self.new.values.store.stack }
         ensures calm { IsCalm result }
         ensures units { self.new.units ≤ self.old.units }
@@ -498,7 +503,8 @@ impl<W> Machine<W> {
     // Compares the top two texts, which are these, and puts 1 or 0 in place of them.
     fn compare_as(&mut self, op: Op2, sorts: Comparands) -> Result<(), End>
         requires { 2 ≤ length self.old.values.store.stack }
-        ensures answer { Answers (spec.compared op (spec.second_of self.old.values.store.stack) (last_of self.old.values.store.stack) sorts) on_top self.old result self.new }
+        ensures answer { Answers (spec.compared op (spec.second_of self.old.values.store.stack)
+            (last_of self.old.values.store.stack) sorts) on_top self.old result self.new }
         ensures stack { PushesOne (under 2 self.old.values.store.stack) result self.new.values.store.stack }
         ensures calm { IsCalm result }
         ensures units { self.new.units ≤ self.old.units }
@@ -515,7 +521,8 @@ impl<W> Machine<W> {
     // What the top two texts are that are compared.
     fn sorts_of_two(&mut self) -> Result<Comparands, NoMemory>
         requires { 2 ≤ length self.old.values.store.stack }
-        ensures sorts { IfOk result (λ sorts. sorts ≡ spec.sorts_of (whole (spec.second_of self.old.values.store.stack)) (whole (last_of self.old.values.store.stack))) }
+        ensures sorts { IfOk result (λ sorts. sorts
+            ≡ spec.sorts_of (whole (spec.second_of self.old.values.store.stack)) (whole (last_of self.old.values.store.stack))) }
         ensures same { SameState self.old self.new }
         ensures stack { self.new.values.store.stack ≡ self.old.values.store.stack }
     {
@@ -528,7 +535,8 @@ impl<W> Machine<W> {
     // Compares the top two texts, and puts 1 or 0 in place of them.
     fn compare(&mut self, op: Op2) -> Result<(), End>
         requires { 2 ≤ length self.old.values.store.stack }
-        ensures answer { Answers (spec.comparison op (spec.second_of self.old.values.store.stack) (last_of self.old.values.store.stack)) on_top self.old result self.new }
+        ensures answer { Answers (spec.comparison op (spec.second_of self.old.values.store.stack)
+            (last_of self.old.values.store.stack)) on_top self.old result self.new }
         ensures stack { PushesOne (under 2 self.old.values.store.stack) result self.new.values.store.stack }
         ensures calm { IsCalm result }
         ensures units { self.new.units ≤ self.old.units }
@@ -542,7 +550,8 @@ impl<W> Machine<W> {
     /// operand below the right one.
     pub fn between(&mut self, op: Op2) -> Result<(), End>
         requires { 2 ≤ length self.old.values.store.stack }
-        ensures answer { Answers (spec.between op (spec.second_of self.old.values.store.stack) (last_of self.old.values.store.stack)) on_top self.old result self.new }
+        ensures answer { Answers (spec.between op (spec.second_of self.old.values.store.stack)
+            (last_of self.old.values.store.stack)) on_top self.old result self.new }
         ensures stack { PushesOne (under 2 self.old.values.store.stack) result self.new.values.store.stack }
         ensures calm { IsCalm result }
         ensures units { self.new.units ≤ self.old.units }
@@ -562,7 +571,8 @@ impl<W> Machine<W> {
         requires place { HasPlace self.old.values.store list }
         requires list { IsList (text_at self.old.values.store list) }
         requires within { k < length (listed (text_at self.old.values.store list)) }
-        ensures equal { IfOk result (λ same. same ≡ is_eq (spec.order (text_at self.old.values.store text) (slice_index_or (listed (text_at self.old.values.store list)) k []))) }
+        ensures equal { IfOk result (λ same. same
+            ≡ is_eq (spec.order (text_at self.old.values.store text) (slice_index_or (listed (text_at self.old.values.store list)) k []))) }
         ensures stack { self.new.values.store.stack ≡ self.old.values.store.stack }
         ensures stays { StaysMade self.old.values.store self.new.values.store }
         ensures same { SameState self.old self.new }
@@ -601,7 +611,8 @@ impl<W> Machine<W> {
     // it is asked for: 1 or 0 in place of them.
     fn membership(&mut self, wanted: bool) -> Result<(), End>
         requires { 2 ≤ length self.old.values.store.stack }
-        ensures answer { Answers (spec.membership wanted (spec.second_of self.old.values.store.stack) (last_of self.old.values.store.stack)) on_top self.old result self.new }
+        ensures answer { Answers (spec.membership wanted (spec.second_of self.old.values.store.stack)
+            (last_of self.old.values.store.stack)) on_top self.old result self.new }
         ensures stack { PushesOne (under 2 self.old.values.store.stack) result self.new.values.store.stack }
         ensures calm { IsCalm result }
         ensures units { self.new.units ≤ self.old.units }
@@ -618,7 +629,9 @@ impl<W> Machine<W> {
     // Compares the top two texts by code points, by an operator of texts.
     fn words_compared(&mut self, op: WordOp) -> Result<(), End>
         requires { 2 ≤ length self.old.values.store.stack }
-        ensures answer { Answers (spec.truth_number (spec.word_holds op (spec.order (spec.second_of self.old.values.store.stack) (last_of self.old.values.store.stack)))) on_top self.old result self.new }
+        ensures answer { Answers (spec.truth_number
+            (spec.word_holds op (spec.order (spec.second_of self.old.values.store.stack)
+            (last_of self.old.values.store.stack)))) on_top self.old result self.new }
         ensures stack { PushesOne (under 2 self.old.values.store.stack) result self.new.values.store.stack }
         ensures calm { IsCalm result }
         ensures units { self.new.units ≤ self.old.units }
@@ -631,7 +644,8 @@ impl<W> Machine<W> {
     /// The same, for an operator of texts.
     pub fn words_between(&mut self, op: WordOp) -> Result<(), End>
         requires { 2 ≤ length self.old.values.store.stack }
-        ensures answer { Answers (spec.words_between op (spec.second_of self.old.values.store.stack) (last_of self.old.values.store.stack)) on_top self.old result self.new }
+        ensures answer { Answers (spec.words_between op (spec.second_of self.old.values.store.stack)
+            (last_of self.old.values.store.stack)) on_top self.old result self.new }
         ensures stack { PushesOne (under 2 self.old.values.store.stack) result self.new.values.store.stack }
         ensures calm { IsCalm result }
         ensures units { self.new.units ≤ self.old.units }

@@ -56,7 +56,9 @@ impl<W> Machine<W> {
         requires base { base ≤ length self.old.values.store.stack }
         requires over { plans.PlanOver (take base self.old.values.store.stack) plan self.old.values.store.stack }
         requires fits { H.fits self.old.own (O.told out.old) ≡ true }
-        ensures answer { AnswersOver (spec.perform left H.given (whole H.given) (plans.wanted_of plan self.old.values.store.stack)) as_outcome self.old (outer (O.told out.old) (O.torn out.old)) result self.new (outer (O.told out.new) (O.torn out.new)) }
+        ensures answer { AnswersOver (spec.perform left H.given (whole H.given)
+            (plans.wanted_of plan self.old.values.store.stack)) as_outcome self.old (outer (O.told out.old) (O.torn out.old)) result self.new
+            (outer (O.told out.new) (O.torn out.new)) }
         ensures stack { PushesResult (take base self.old.values.store.stack) result self.new.values.store.stack }
         ensures cause { Caused (O.faults out.old) (O.faults out.new) result }
         ensures units { self.new.units ≤ self.old.units }
@@ -92,7 +94,9 @@ impl<W> Machine<W> {
         requires base { base ≤ length self.old.values.store.stack }
         requires place { at < length self.old.values.store.stack }
         requires fits { H.fits self.old.own (O.told out.old) ≡ true }
-        ensures answer { AnswersOver (spec.around left H.given (whole H.given) (plans.placed self.old.values.store.stack at) behind) as_outcome self.old (outer (O.told out.old) (O.torn out.old)) result self.new (outer (O.told out.new) (O.torn out.new)) }
+        ensures answer { AnswersOver (spec.around left H.given (whole H.given)
+            (plans.placed self.old.values.store.stack at) behind) as_outcome self.old (outer (O.told out.old) (O.torn out.old)) result self.new
+            (outer (O.told out.new) (O.torn out.new)) }
         ensures stack { PushesResult (take base self.old.values.store.stack) result self.new.values.store.stack }
         ensures cause { Caused (O.faults out.old) (O.faults out.new) result }
         ensures units { self.new.units ≤ self.old.units }
@@ -117,7 +121,8 @@ impl<W> Machine<W> {
     ) -> Result<Carried, End>
         requires place { at < length self.old.values.store.stack }
         requires fits { H.fits self.old.own (O.told out.old) ≡ true }
-        ensures answer { AnswersOver (spec.value_result (whole H.given) (plans.placed self.old.values.store.stack at)) as_outcome self.old (outer (O.told out.old) (O.torn out.old)) result self.new (outer (O.told out.new) (O.torn out.new)) }
+        ensures answer { AnswersOver (spec.value_result (whole H.given) (plans.placed self.old.values.store.stack at)) as_outcome self.old
+            (outer (O.told out.old) (O.torn out.old)) result self.new (outer (O.told out.new) (O.torn out.new)) }
         ensures stack { PushesOne self.old.values.store.stack result self.new.values.store.stack }
         ensures cause { Caused (O.faults out.old) (O.faults out.new) result }
         ensures units { self.new.units ≤ self.old.units }
@@ -138,7 +143,8 @@ impl<W> Machine<W> {
     ) -> Result<bool, End>
         requires place { HasPlace self.old.values.store at }
         requires fits { H.fits self.old.own (O.told out.old) ≡ true }
-        ensures answer { AnswersOver (expressions.condition (whole H.given) (text_at self.old.values.store at)) returned self.old (outer (O.told out.old) (O.torn out.old)) result self.new (outer (O.told out.new) (O.torn out.new)) }
+        ensures answer { AnswersOver (expressions.condition (whole H.given) (text_at self.old.values.store at)) returned self.old
+            (outer (O.told out.old) (O.torn out.old)) result self.new (outer (O.told out.new) (O.torn out.new)) }
         ensures stack { KeepsStack self.old.values.store.stack result self.new.values.store.stack }
         ensures cause { Caused (O.faults out.old) (O.faults out.new) result }
         ensures units { self.new.units ≤ self.old.units }
@@ -161,7 +167,9 @@ impl<W> Machine<W> {
         requires items { All (plans.BranchInside self.old.values.store.stack) branches.now }
         requires last { plans.WayInside self.old.values.store.stack last }
         requires fits { H.fits self.old.own (O.told out.old) ≡ true }
-        ensures answer { AnswersOver (spec.choose (whole H.given) (plans.alternatives_of self.old.values.store.stack branches.now) (plans.lead_of self.old.values.store.stack last)) as_outcome self.old (outer (O.told out.old) (O.torn out.old)) result self.new (outer (O.told out.new) (O.torn out.new)) }
+        ensures answer { AnswersOver (spec.choose (whole H.given) (plans.alternatives_of self.old.values.store.stack branches.now)
+            (plans.lead_of self.old.values.store.stack last)) as_outcome self.old (outer (O.told out.old) (O.torn out.old)) result self.new
+            (outer (O.told out.new) (O.torn out.new)) }
         ensures stack { PushesOne self.old.values.store.stack result self.new.values.store.stack }
         ensures cause { Caused (O.faults out.old) (O.faults out.new) result }
         ensures units { self.new.units ≤ self.old.units }
@@ -179,7 +187,8 @@ impl<W> Machine<W> {
     // Raises the error that a test leads to.
     fn refuse_lead(&mut self, kind: MessageId, first: Option<usize>) -> End
         requires { plans.WayInside self.old.values.store.stack (Way.Refused kind first) }
-        ensures raises { Raises (text_of kind (plans.placed_or_none self.old.values.store.stack first) (chars [])) (error_code ErrorCode.NoCode (plans.placed_or_none self.old.values.store.stack first)) self.new.values.store.stack result }
+        ensures raises { Raises (text_of kind (plans.placed_or_none self.old.values.store.stack first) (chars []))
+            (error_code ErrorCode.NoCode (plans.placed_or_none self.old.values.store.stack first)) self.new.values.store.stack result }
         ensures same { SameState self.old self.new }
         ensures stack { KeepsStack {T = Unit {0}} self.old.values.store.stack (Err result) self.new.values.store.stack }
     {
@@ -199,7 +208,8 @@ impl<W> Machine<W> {
     ) -> Result<Carried, End>
         requires way { plans.WayInside self.old.values.store.stack way }
         requires fits { H.fits self.old.own (O.told out.old) ≡ true }
-        ensures answer { AnswersOver (spec.lead (whole H.given) (plans.lead_of self.old.values.store.stack way)) as_outcome self.old (outer (O.told out.old) (O.torn out.old)) result self.new (outer (O.told out.new) (O.torn out.new)) }
+        ensures answer { AnswersOver (spec.lead (whole H.given) (plans.lead_of self.old.values.store.stack way)) as_outcome self.old
+            (outer (O.told out.old) (O.torn out.old)) result self.new (outer (O.told out.new) (O.torn out.new)) }
         ensures stack { PushesOne self.old.values.store.stack result self.new.values.store.stack }
         ensures cause { Caused (O.faults out.old) (O.faults out.new) result }
         ensures units { self.new.units ≤ self.old.units }

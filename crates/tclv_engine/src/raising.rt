@@ -59,7 +59,8 @@ impl<W> Machine<W> {
     ) -> End
         requires first { IsText first.now }
         requires second { IsText second.now }
-        ensures raises { Raises (text_of kind (chars first.now) (chars second.now)) (error_code errorcode (chars first.now)) self.new.values.store.stack result }
+        ensures raises { Raises (text_of kind (chars first.now) (chars second.now))
+            (error_code errorcode (chars first.now)) self.new.values.store.stack result }
         ensures same { SameState self.old self.new }
         ensures stack { KeepsStack {T = Unit {0}} self.old.values.store.stack (Err result) self.new.values.store.stack }
     {
@@ -89,7 +90,8 @@ impl<W> Machine<W> {
     ) -> End
         requires first { HasPlace self.old.values.store first }
         requires second { IsText second.now }
-        ensures raises { Raises (text_of kind (text_at self.old.values.store first) (chars second.now)) (error_code errorcode (text_at self.old.values.store first)) self.new.values.store.stack result }
+        ensures raises { Raises (text_of kind (text_at self.old.values.store first) (chars second.now))
+            (error_code errorcode (text_at self.old.values.store first)) self.new.values.store.stack result }
         ensures same { SameState self.old self.new }
         ensures stack { KeepsStack {T = Unit {0}} self.old.values.store.stack (Err result) self.new.values.store.stack }
     {

@@ -33,7 +33,8 @@ impl<W> Machine<W> {
     ) -> Result<bool, End>
         requires shape { Fits test.now 0 0 }
         requires fits { H.fits self.old.own (O.told out.old) ≡ true }
-        ensures answer { AnswersOver (run.run_turn (whole H.given) test.now next.now body.now) returned self.old (outer (O.told out.old) (O.torn out.old)) result self.new (outer (O.told out.new) (O.torn out.new)) }
+        ensures answer { AnswersOver (run.run_turn (whole H.given) test.now next.now body.now) returned self.old
+            (outer (O.told out.old) (O.torn out.old)) result self.new (outer (O.told out.new) (O.torn out.new)) }
         ensures stack { KeepsStack self.old.values.store.stack result self.new.values.store.stack }
         ensures cause { Caused (O.faults out.old) (O.faults out.new) result }
         ensures units { self.new.units ≤ self.old.units }
@@ -64,7 +65,8 @@ impl<W> Machine<W> {
     ) -> Result<(), End>
         requires shape { Fits test.now 0 0 }
         requires fits { H.fits self.old.own (O.told out.old) ≡ true }
-        ensures answer { AnswersOver (loops.loop (run.run_turn (whole H.given) test.now next.now body.now)) returned self.old (outer (O.told out.old) (O.torn out.old)) result self.new (outer (O.told out.new) (O.torn out.new)) }
+        ensures answer { AnswersOver (loops.loop (run.run_turn (whole H.given) test.now next.now body.now)) returned self.old
+            (outer (O.told out.old) (O.torn out.old)) result self.new (outer (O.told out.new) (O.torn out.new)) }
         ensures stack { KeepsStack self.old.values.store.stack result self.new.values.store.stack }
         ensures cause { Caused (O.faults out.old) (O.faults out.new) result }
         ensures units { self.new.units ≤ self.old.units }
@@ -90,7 +92,8 @@ impl<W> Machine<W> {
         requires next { IfSome next (λ at. at < length self.old.values.store.stack) }
         requires body { body < length self.old.values.store.stack }
         requires fits { H.fits self.old.own (O.told out.old) ≡ true }
-        ensures answer { AnswersOver (rows.repeated (whole H.given) (placed self.old.values.store.stack) test next body) as_outcome self.old (outer (O.told out.old) (O.torn out.old)) result self.new (outer (O.told out.new) (O.torn out.new)) }
+        ensures answer { AnswersOver (rows.repeated (whole H.given) (placed self.old.values.store.stack) test next body) as_outcome self.old
+            (outer (O.told out.old) (O.torn out.old)) result self.new (outer (O.told out.new) (O.torn out.new)) }
         ensures stack { PushesOne self.old.values.store.stack result self.new.values.store.stack }
         ensures cause { Caused (O.faults out.old) (O.faults out.new) result }
         ensures units { self.new.units ≤ self.old.units }
@@ -121,7 +124,10 @@ impl<W> Machine<W> {
         requires next { next < length self.old.values.store.stack }
         requires body { body < length self.old.values.store.stack }
         requires fits { H.fits self.old.own (O.told out.old) ≡ true }
-        ensures answer { AnswersOver (rows.started_loop (whole H.given) (text_at self.old.values.store (At.Stack start)) (text_at self.old.values.store (At.Stack test)) (text_at self.old.values.store (At.Stack next)) (text_at self.old.values.store (At.Stack body))) as_outcome self.old (outer (O.told out.old) (O.torn out.old)) result self.new (outer (O.told out.new) (O.torn out.new)) }
+        ensures answer { AnswersOver (rows.started_loop (whole H.given) (text_at self.old.values.store (At.Stack start))
+            (text_at self.old.values.store (At.Stack test)) (text_at self.old.values.store (At.Stack next))
+            (text_at self.old.values.store (At.Stack body))) as_outcome self.old (outer (O.told out.old) (O.torn out.old)) result self.new
+            (outer (O.told out.new) (O.torn out.new)) }
         ensures stack { PushesOne self.old.values.store.stack result self.new.values.store.stack }
         ensures cause { Caused (O.faults out.old) (O.faults out.new) result }
         ensures units { self.new.units ≤ self.old.units }

@@ -12,10 +12,11 @@ ghost use Rattle.tclv_parse.specs.Grammar.{commands};
 ghost use Rattle.tclv_exprp.specs.Flat as instructions;
 ghost use Rattle.tclv_exprp.specs.Flat.{instructions_of};
 ghost use Rattle.tclv_vars.specs.Clearing.{outermost, outermost_texts, IsOutermost};
-ghost use Rattle.tclv_vars.specs.Table.{no_variables, read, write, Refuses};
+ghost use Rattle.tclv_vars.specs.Table.{no_variables, Refuses};
 ghost use Rattle.tclv_value.specs.View.{HasPlace, text_at, IsMade};
 ghost use Rattle.tclv_value.specs.Stacks.{top, under};
 
+use crate::named_cells::{missing_named, read_named, take_back_named, write_named};
 use sqlite_items::Items;
 use std::alloc::Global;
 use std::marker::Model;
@@ -23,7 +24,7 @@ use std::rc::Rc;
 use tclv_exprp::{ExprFault, Instruction};
 use tclv_model::CmdFault;
 use tclv_parse::Script;
-use tclv_reply::list_len;
+use tclv_reply::{NameShape, list_len};
 use tclv_text::{NoMemory, Stats, Text};
 use tclv_value::{At, Store, ValueFault};
 use tclv_vars::{Place, VarFault, Vars};
@@ -73,6 +74,8 @@ impl Values {
     ghost use Rattle.tclv_value.specs.Answers.{RefusesWhole};
     ghost use Rattle.tclv_engine.specs.Holdings.{Sets, SameVariables, Assigned};
     ghost use Rattle.tclv_engine.specs.Names.{bytes_of};
+    ghost use Rattle.tclv_engine.specs.Names as spec_names;
+    ghost use Rattle.tclv_reply.specs.Names.{naming, element_of, shape_of};
     ghost use Rattle.tclv_engine.specs.Instructions.{IsBetween};
     ghost use Rattle.tclv_engine.specs.Plans.{placed};
 
@@ -213,63 +216,84 @@ impl Values {
         self.store.expr(at)
     }
 
-    /// The cell of the variable of this name, which has a text. Refuses as `tclv_vars::Vars::read`
-    /// does. Takes no memory.
-    pub fn cell_named(&self, name: &[u8]) -> Result<u64, VarFault>
-        requires { IsText name.now }
-        ensures answer { result ≡ read self.now.vars Place.Frame name.now None }
+    /// The cell of what a name names, given with its shape, which has a text. Refuses as
+    /// `tclv_vars::Vars::read` does. Takes no memory.
+    pub fn cell_named(&self, name: &[u8], shape: NameShape) -> Result<u64, VarFault>
+        requires name { IsText name.now }
+        requires shape { shape ≡ shape_of name.now }
+        ensures answer { result ≡ spec_names.read_named self.now.vars (naming name.now) }
         ensures there { IfOk result (λ cell. HasPlace self.now.store (Cell cell)) }
     {
-        self.vars.read(Place::Frame, name, None)
+        read_named(&self.vars, name, shape)
     }
 
-    /// The cell of the variable whose name is the text of a place. As `cell_named`.
-    pub fn cell_at(&self, name: At) -> Result<u64, VarFault>
+    /// The cell of what the text of a place names. As `cell_named`.
+    pub fn cell_at(&self, name: At, shape: NameShape) -> Result<u64, VarFault>
         requires place { HasPlace self.now.store name }
         requires made { IsMade self.now.store name }
-        ensures answer { result ≡ read self.now.vars Place.Frame (bytes_of (text_at self.now.store name)) None }
+        requires shape { shape ≡ shape_of (bytes_of (text_at self.now.store name)) }
+        ensures answer { result ≡ spec_names.read_named self.now.vars (naming (bytes_of (text_at self.now.store name))) }
         ensures there { IfOk result (λ cell. HasPlace self.now.store (Cell cell)) }
     {
-        self.cell_named(self.lend(name))
+        self.cell_named(self.lend(name), shape)
     }
 
-    /// Sets the variable whose name is the text of a place to the top text of the stack, which
-    /// moves into the variable's cell. After a refusal all is as before; it is one of
+    /// The cell of an element of an array of the current frame, by the array's name and the index,
+    /// which is the text of a place. As `cell_named`.
+    pub fn cell_of_element(&self, array: &[u8], index: At) -> Result<u64, VarFault>
+        requires array { IsText array.now }
+        requires place { HasPlace self.now.store index }
+        requires made { IsMade self.now.store index }
+        ensures answer { result ≡ spec_names.read_named self.now.vars (element_of array.now (bytes_of (text_at self.now.store index))) }
+        ensures there { IfOk result (λ cell. HasPlace self.now.store (Cell cell)) }
+    {
+        self.vars.read(Place::Frame, array, Some(self.lend(index)))
+    }
+
+    /// How the name of a variable is read that is the text of a place. Takes no memory.
+    pub fn shape_at(&self, name: At) -> NameShape
+        requires place { HasPlace self.now.store name }
+        requires made { IsMade self.now.store name }
+        ensures { result ≡ shape_of (bytes_of (text_at self.now.store name)) }
+    {
+        NameShape::of(self.lend(name))
+    }
+
+    /// Sets what the text of a place names to the top text of the stack, which moves into the cell. The
+    /// name is given with its shape. After a refusal all is as before; it is one of
     /// `tclv_vars::Vars::write`.
-    pub fn write_top(&mut self, name: At) -> Result<u64, VarFault>
+    pub fn write_top(&mut self, name: At, shape: NameShape) -> Result<u64, VarFault>
         requires place { HasPlace self.old.store name }
         requires made { IsMade self.old.store name }
         requires some { 0 < length self.old.store.stack }
-        ensures assigned { IfOk result (Assigned self.old self.new (bytes_of (text_at self.old.store name))) }
+        requires shape { shape ≡ shape_of (bytes_of (text_at self.old.store name)) }
+        ensures assigned { IfOk result (Assigned self.old self.new (naming (bytes_of (text_at self.old.store name)))) }
         ensures there { IfOk result (λ cell. HasPlace self.new.store (Cell cell)) }
-        ensures refused { IfErr result (Refuses (write self.old.vars Place.Frame (bytes_of (text_at self.old.store name)) None)) }
+        ensures refused { IfErr result (Refuses (spec_names.write_named self.old.vars (naming (bytes_of (text_at self.old.store name))))) }
         ensures stack { OnErr result (self.new.store.stack ≡ self.old.store.stack) }
         ensures same { OnErr result (SameVariables self.old self.new) }
     {
-        let lacked = self
-            .vars
-            .missing(Place::Frame, lent(&self.store, name), None);
-        let (cell, fresh) = self
-            .vars
-            .write(Place::Frame, lent(&self.store, name), None)?;
+        let lacked = missing_named(&self.vars, lent(&self.store, name), shape);
+        let (cell, fresh) = write_named(&mut self.vars, lent(&self.store, name), shape)?;
         match self.store.put_cell(cell) {
             Ok(()) => Ok(cell),
             Err(_) => {
                 if fresh {
                     let name = lent(&self.store, name);
-                    self.vars.take_back(Place::Frame, name, None, lacked);
+                    take_back_named(&mut self.vars, name, shape, lacked);
                 }
                 Err(VarFault::NoMemory)
             }
         }
     }
 
-    /// Sets the variable of a name to a value, both as UTF-8. No variable of the name is an array.
-    /// After `NoMemory` all is as before.
-    pub fn set_named(&mut self, name: &[u8], value: &[u8]) -> Result<(), NoMemory>
+    /// Sets what a name names to a value, both as UTF-8. After a refusal all is as before; it is one of
+    /// `tclv_vars::Vars::write`.
+    pub fn set_named(&mut self, name: &[u8], value: &[u8]) -> Result<(), VarFault>
         requires name { IsText name.now }
         requires value { IsText value.now }
-        ensures set { OnOk result (Sets self.old self.new name.now (chars value.now)) }
+        ensures set { OnOk result (Sets self.old self.new (naming name.now) (chars value.now)) }
+        ensures refused { IfErr result (Refuses (spec_names.write_named self.old.vars (naming name.now))) }
         ensures stack { self.new.store.stack ≡ self.old.store.stack }
         ensures same { OnErr result (SameVariables self.old self.new) }
     {
@@ -281,19 +305,20 @@ impl Values {
     }
 
     // Sets the variable whose name is the text of a place to a value.
-    fn set_at(&mut self, name: At, value: &[u8]) -> Result<(), NoMemory>
+    fn set_at(&mut self, name: At, value: &[u8]) -> Result<(), VarFault>
         requires place { HasPlace self.old.store name }
         requires value { IsText value.now }
-        ensures set { OnOk result (Sets self.old self.new (bytes_of (text_at self.old.store name)) (chars value.now)) }
+        ensures set { OnOk result (Sets self.old self.new (naming (bytes_of (text_at self.old.store name))) (chars value.now)) }
+        ensures refused { IfErr result (Refuses (spec_names.write_named self.old.vars (naming (bytes_of (text_at self.old.store name))))) }
         ensures stack { self.new.store.stack ≡ self.old.store.stack }
         ensures same { OnErr result (SameVariables self.old self.new) }
     {
         self.push_text(value)?;
         match self.set_to_top(name) {
             Ok(_) => Ok(()),
-            Err(_) => {
+            Err(fault) => {
                 self.pop(1);
-                Err(NoMemory)
+                Err(fault)
             }
         }
     }
@@ -303,12 +328,14 @@ impl Values {
     fn set_to_top(&mut self, name: At) -> Result<u64, VarFault>
         requires place { HasPlace self.old.store name }
         requires some { 0 < length self.old.store.stack }
-        ensures assigned { IfOk result (Assigned self.old self.new (bytes_of (text_at self.old.store name))) }
+        ensures assigned { IfOk result (Assigned self.old self.new (naming (bytes_of (text_at self.old.store name)))) }
+        ensures refused { IfErr result (Refuses (spec_names.write_named self.old.vars (naming (bytes_of (text_at self.old.store name))))) }
         ensures stack { OnErr result (self.new.store.stack ≡ self.old.store.stack) }
         ensures same { OnErr result (SameVariables self.old self.new) }
     {
         self.make_text(name)?;
-        self.write_top(name)
+        let shape = self.shape_at(name);
+        self.write_top(name, shape)
     }
 
     /// How many elements the list has that the text of a place is. No text changes; where the text is

@@ -1,5 +1,5 @@
 // Reading and writing variables.
-ghost use Rattle.std.specs.Prelude.{◌≡◌, ◌<◌, [], Err, length, unwrap_or};
+ghost use Rattle.std.specs.Prelude.{◌≡◌, ◌+◌, ◌<◌, [], Err, IfOk, length, unwrap_or};
 ghost use Rattle.std.specs.FinMap.{get};
 ghost use Rattle.tclv_model.specs.Message.{text_of};
 ghost use Rattle.tclv_engine.specs.Results.{done};
@@ -7,14 +7,17 @@ ghost use Rattle.tclv_model.specs.ErrorCodes.{error_code};
 ghost use Rattle.std.specs.Str.{chars};
 ghost use Rattle.tclv_text.specs.Texts.{IsText};
 ghost use Rattle.tclv_value.specs.View.{HasPlace, IsMade, text_at};
+ghost use Rattle.tclv_value.specs.Stacks.{under};
 ghost use Rattle.tclv_engine.specs.State.{texts_in};
 ghost use Rattle.tclv_engine.specs.Variables as spec;
 ghost use Rattle.tclv_engine.specs.Answers.{Answers, Pushes, PushesOne, KeepsStack, IsCalm, Raises, SameState, last_of, on_top};
 
 use crate::endings::End;
 use crate::machine::Machine;
-use crate::names::is_unbuilt;
+use std::alloc::Global;
 use tclv_model::{ErrorCode, MessageId};
+use tclv_reply::{NameShape, is_qualified};
+use tclv_text::{NoMemory, Text};
 use tclv_value::At;
 use tclv_vars::VarFault;
 
@@ -29,6 +32,20 @@ fn unreadable(fault: VarFault) -> (MessageId, ErrorCode)
         VarFault::NotArray => (MessageId::CannotReadNonArray, ErrorCode::NoCode),
         _ => (MessageId::NoSuchVariable, ErrorCode::UnknownVariable),
     }
+}
+
+// The name of an element, as a script writes it.
+fn element_name(alloc: Global, array: &[u8], index: &[u8]) -> Result<Text, NoMemory>
+    requires array { IsText array.now }
+    requires index { IsText index.now }
+    ensures { IfOk result (λ name. name ≡ spec.element_name (chars array.now) (chars index.now)) }
+{
+    let mut name = Text::new(Vec::new(alloc));
+    name.push(array)?;
+    name.push(b"(")?;
+    name.push(index)?;
+    name.push(b")")?;
+    Ok(name)
 }
 
 impl<W> Machine<W> {
@@ -51,10 +68,11 @@ impl<W> Machine<W> {
         ensures units { self.new.units ≡ self.old.units }
         ensures own { self.new.own ≡ self.old.own }
     {
-        if is_unbuilt(name) {
+        let shape = NameShape::of(name);
+        if shape.qualified {
             return Err(self.not_built());
         }
-        match self.values.cell_named(name) {
+        match self.values.cell_named(name, shape) {
             Ok(cell) => self.push_cell(cell),
             Err(fault) => {
                 let (kind, code) = unreadable(fault);
@@ -100,15 +118,76 @@ impl<W> Machine<W> {
         ensures units { self.new.units ≡ self.old.units }
         ensures own { self.new.own ≡ self.old.own }
     {
-        if is_unbuilt(self.values.lend(name)) {
+        let shape = self.values.shape_at(name);
+        if shape.qualified {
             return Err(self.not_built());
         }
-        match self.values.cell_at(name) {
+        match self.values.cell_at(name, shape) {
             Ok(cell) => self.push_cell(cell),
             Err(fault) => {
                 let (kind, code) = unreadable(fault);
                 Err(self.raise_at(kind, name, b"", code))
             }
+        }
+    }
+
+    /// Puts the value of an element, by its array's name, as UTF-8, in place of the top text, which is
+    /// its index.
+    pub fn put_element(&mut self, array: &[u8]) -> Result<(), End>
+        requires array { IsText array.now }
+        requires some { 0 < length self.old.values.store.stack }
+        ensures answer { Answers (spec.element_value (chars array.now) (last_of self.old.values.store.stack)) on_top self.old result self.new }
+        ensures stack { PushesOne (under 1 self.old.values.store.stack) result self.new.values.store.stack }
+        ensures calm { IsCalm result }
+        ensures units { self.new.units ≡ self.old.units }
+        ensures own { self.new.own ≡ self.old.own }
+    {
+        let last = self.values.height() - 1;
+        self.values.make_text(At::Stack(last))?;
+        self.put_made_element(array, last)
+    }
+
+    // The same, where the text of the index is made, at the last place of the stack.
+    #[tactic(auto, using(crate::proofs::StackLemmas::pushes_one))]
+    fn put_made_element(&mut self, array: &[u8], last: usize) -> Result<(), End>
+        requires array { IsText array.now }
+        requires last { length self.old.values.store.stack ≡ last + 1 }
+        requires made { IsMade self.old.values.store (At.Stack last) }
+        ensures answer { Answers (spec.element_value (chars array.now) (last_of self.old.values.store.stack)) on_top self.old result self.new }
+        ensures stack { PushesOne (under 1 self.old.values.store.stack) result self.new.values.store.stack }
+        ensures calm { IsCalm result }
+        ensures units { self.new.units ≡ self.old.units }
+        ensures own { self.new.own ≡ self.old.own }
+    {
+        if is_qualified(array) {
+            return Err(self.not_built());
+        }
+        match self.values.cell_of_element(array, At::Stack(last)) {
+            Ok(cell) => {
+                self.values.pop(1);
+                self.push_cell(cell)
+            }
+            Err(fault) => Err(self.refuse_element(fault, array, last)),
+        }
+    }
+
+    // Raises the error that an element can't be read, whose index is a text of the stack, which is made.
+    fn refuse_element(&mut self, fault: VarFault, array: &[u8], index: usize) -> End
+        requires array { IsText array.now }
+        requires place { index < length self.old.values.store.stack }
+        requires made { IsMade self.old.values.store (At.Stack index) }
+        ensures raises { Raises (text_of (spec.reading_message fault) (spec.element_name (chars array.now) (text_at self.old.values.store (At.Stack index))) [])
+            (error_code (spec.reading_code fault) (spec.element_name (chars array.now) (text_at self.old.values.store (At.Stack index))))
+            self.new.values.store.stack result }
+        ensures same { SameState self.old self.new }
+        ensures stack { KeepsStack {T = Unit {0}} self.old.values.store.stack (Err result) self.new.values.store.stack }
+    {
+        match element_name(self.alloc, array, self.values.lend(At::Stack(index))) {
+            Ok(name) => {
+                let (kind, code) = unreadable(fault);
+                self.raise(kind, name.bytes(), b"", code)
+            }
+            Err(_) => End::Memory,
         }
     }
 
@@ -138,10 +217,11 @@ impl<W> Machine<W> {
         ensures units { self.new.units ≡ self.old.units }
         ensures own { self.new.own ≡ self.old.own }
     {
-        if is_unbuilt(self.values.lend(name)) {
+        let shape = self.values.shape_at(name);
+        if shape.qualified {
             return Err(self.not_built());
         }
-        match self.values.write_top(name) {
+        match self.values.write_top(name, shape) {
             Ok(cell) => self.push_cell(cell),
             Err(fault) => Err(self.refuse_write(fault, name)),
         }

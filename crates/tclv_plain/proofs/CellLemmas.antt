@@ -11,6 +11,7 @@ use Rattle.std.proofs.Math.Seq.{take-append_seam}
 use Rattle.std.proofs.lemmas.Option.{none-some}
 use Rattle.std.proofs.lemmas.Str.{chars-nil}
 use Rattle.std.proofs.lemmas.Bool.{eqb-true, cond-true, cond-false}
+use Rattle.std.specs.Cmp.Lexicographic.{slice_cmp}
 use Rattle.tclv_vars.specs.declared.places.Home.{Home}
 use Rattle.tclv_io.specs.World.{World}
 use Rattle.tclv_vars.specs.declared.places.Place.TheVariants as place
@@ -20,7 +21,7 @@ use Rattle.tclv_vars.specs.declared.parts.Content.TheVariants.{Plain, Array}
 use Rattle.tclv_vars.specs.declared.faults.VarFault.{VarFault}
 use Rattle.tclv_vars.specs.declared.faults.VarFault.TheVariants as var_fault
 use Rattle.tclv_vars.specs.Scoping.{home, slot_of}
-use Rattle.tclv_vars.specs.Table.{Table, Spot, read, write, there, plain_at, read_slot, locate_slot, set_spot, set_cell, has_value, Refuses}
+use Rattle.tclv_vars.specs.Table.{Table, Spot, there, plain_at, read_in, read_element, read_slot, locate_in, locate_element, locate_slot, set_spot, set_cell, has_value, Refuses}
 use Rattle.tclv_model.specs.declared.data_commands.CmdFault.{CmdFault}
 use Rattle.tclv_model.specs.declared.data_commands.CmdFault.TheVariants as fault
 use Rattle.tclv_model.specs.declared.data_commands.VarState.{VarState}
@@ -43,7 +44,8 @@ use Rattle.tclv_engine.specs.declared.machine.Machine.{Machine}
 use Rattle.tclv_engine.specs.Holdings.{Holdings, IsTied}
 use Rattle.tclv_engine.specs.State.{Text, State, state_of, with_variables}
 use Rattle.tclv_engine.specs.Results.{Res, Outcome, bind, done, ok, plain}
-use Rattle.tclv_engine.specs.Names.{bytes_of}
+use Rattle.tclv_reply.specs.Names.{Naming, naming}
+use Rattle.tclv_engine.specs.Names.{bytes_of, read_named, write_named}
 use Rattle.tclv_engine.specs.Variables.{is_unbuilt, not_built}
 use Rattle.tclv_engine.specs.Usages.{call_word}
 use Rattle.tclv_engine.specs.Operations.{second_of}
@@ -128,15 +130,28 @@ found_plain t c d fault None e = cc
 found_plain t c d fault (Some Plain) e = (refl, cc)
 found_plain t c d fault (Some (Array es)) e = cc
 
-slot_write : (t : Table) (h : Home) (name : List ℕ) (slot : Option Slot) (c : ℕ) → read_slot t.contents slot None ≡ Ok c → set_spot t (locate_slot t h name slot None) ≡ there t c
-slot_write t h name None c e = cc
-slot_write t h name (Some s) c e =
-    let found = found_plain t c s.cell var_fault.NoVariable (get t.contents s.cell) e in
+element_write : (t : Table) (d : ℕ) (es : FinMap (slice_cmp nat_cmp) ℕ) (i : List ℕ) (o : Option ℕ) (c : ℕ) → read_in t.contents o ≡ Ok c → set_spot t (locate_in t d es i o) ≡ there t c
+element_write t d es i None c e = cc
+element_write t d es i (Some x) c e =
+    let found = found_plain t c x var_fault.NoElement (get t.contents x) e in
     found.0 ∙ ap (there t) found.1
 
--- a write to a variable that is set changes nothing
-pub read_write : (t : Table) (name : List ℕ) (c : ℕ) → read t place.Frame name None ≡ Ok c → write t place.Frame name None ≡ Ok (record { cell = c; fresh = false; after = t })
-read_write t name c e = slot_write t (home t.scopes place.Frame) name (slot_of t.scopes (home t.scopes place.Frame) name) c e
+cell_write : (t : Table) (d : ℕ) (content : Option Content) (i : List ℕ) (c : ℕ) → read_element t.contents content i ≡ Ok c → set_spot t (locate_element t d content i) ≡ there t c
+cell_write t d None i c e = cc
+cell_write t d (Some Plain) i c e = cc
+cell_write t d (Some (Array es)) i c e = element_write t d es i (get es i) c e
+
+slot_write : (t : Table) (h : Home) (name : List ℕ) (slot : Option Slot) (index : Option (List ℕ)) (c : ℕ) → read_slot t.contents slot index ≡ Ok c → set_spot t (locate_slot t h name slot index) ≡ there t c
+slot_write t h name None None c e = cc
+slot_write t h name None (Some i) c e = cc
+slot_write t h name (Some s) None c e =
+    let found = found_plain t c s.cell var_fault.NoVariable (get t.contents s.cell) e in
+    found.0 ∙ ap (there t) found.1
+slot_write t h name (Some s) (Some i) c e = cell_write t s.cell (get t.contents s.cell) i c e
+
+-- a write to what is set changes nothing
+pub read_write : (t : Table) (n : Naming) (c : ℕ) → read_named t n ≡ Ok c → write_named t n ≡ Ok (record { cell = c; fresh = false; after = t })
+read_write t n c e = slot_write t (home t.scopes place.Frame) n.name (slot_of t.scopes (home t.scopes place.Frame) n.name) n.index c e
 
 same_or : (vars : Table) (cell c : ℕ) (b : Bool) → nat_eq c cell ≡ b → has_value vars cell ≡ true → has_value vars c ≡ (b || has_value vars c)
 same_or vars cell c true e h = ap (has_value vars) (eqb-true c cell e) ∙ h
@@ -201,9 +216,9 @@ tied_set row n vars old new cell (Err kind) h v tied = same_tied vars old new h.
 
 -- ---- what the call answers on a variable
 
-module _ (row : Variable → VarAnswer) (n : ℕ) (name : List ℕ) (old new : Holdings) where
+module _ (row : Variable → VarAnswer) (n : ℕ) (name : Naming) (old new : Holdings) where
   -- the variable has a cell
-  pub changed : (spot : Spot) → write old.vars place.Frame name None ≡ Ok spot → new.vars ≡ spot.after →
+  pub changed : (spot : Spot) → write_named old.vars name ≡ Ok spot → new.vars ≡ spot.after →
       replies.Changes (row (replies.variable_of (var.Cell spot.cell) old.store)) (var.Cell spot.cell) n old.store new.store → Changes row n name old new (Ok tt)
   changed spot w v h = record {
     keeps = record {
@@ -217,7 +232,7 @@ module _ (row : Variable → VarAnswer) (n : ℕ) (name : List ℕ) (old new : H
     same = tt;
   }
 
-  pub declined : (spot : Spot) (kind : CmdFault) → write old.vars place.Frame name None ≡ Ok spot → new.vars ≡ old.vars →
+  pub declined : (spot : Spot) (kind : CmdFault) → write_named old.vars name ≡ Ok spot → new.vars ≡ old.vars →
       replies.VarAnswers (row (replies.variable_of (var.Cell spot.cell) old.store)) (var.Cell spot.cell) n old.store new.store (Err kind) → Changes row n name old new (Err kind)
   declined spot kind w v h = record {
     keeps = tt;
@@ -226,7 +241,7 @@ module _ (row : Variable → VarAnswer) (n : ℕ) (name : List ℕ) (old new : H
   }
 
   -- it was set
-  pub found : (cell : ℕ) (r : Result (Unit {0}) CmdFault) → read old.vars place.Frame name None ≡ Ok cell → new.vars ≡ old.vars →
+  pub found : (cell : ℕ) (r : Result (Unit {0}) CmdFault) → read_named old.vars name ≡ Ok cell → new.vars ≡ old.vars →
       replies.VarAnswers (row (replies.variable_of (var.Cell cell) old.store)) (var.Cell cell) n old.store new.store r → Changes row n name old new r
   found cell (Ok t) e v h = changed (record { cell = cell; fresh = false; after = old.vars }) (read_write old.vars name cell e) v h.gives
   found cell (Err kind) e v h = declined (record { cell = cell; fresh = false; after = old.vars }) kind (read_write old.vars name cell e) v h
@@ -257,7 +272,7 @@ module _ (row : Variable → VarAnswer) (n : ℕ) (name : List ℕ) (old new : H
       let as_x = subst Q k own in
       none x r s d v (cells own) (gives_pair x o r as_x) as_x.refuses
 
-  pub untold : (f : VarFault) (variable : VarState) (r : Result (Unit {0}) CmdFault) → unsettable f ≡ Some variable → Refuses (write old.vars place.Frame name None) f → IsRefusal (row WholeArray) → IsRefusal (row PlainElement) → new.vars ≡ old.vars →
+  pub untold : (f : VarFault) (variable : VarState) (r : Result (Unit {0}) CmdFault) → unsettable f ≡ Some variable → Refuses (write_named old.vars name) f → IsRefusal (row WholeArray) → IsRefusal (row PlainElement) → new.vars ≡ old.vars →
       replies.VarAnswers (row (replies.variable_of variable old.store)) variable n old.store new.store r → Changes row n name old new r
   untold var_fault.NoVariable variable r e w a b v h = array_by var.IsArray WholeArray variable r e refl (cells_array (row WholeArray) n old.store new.store r) (ap (λ m. seen m old.store.cells) w) a v h
   untold var_fault.NoElement variable r e w a b v h = array_by var.IsArray WholeArray variable r e refl (cells_array (row WholeArray) n old.store new.store r) (ap (λ m. seen m old.store.cells) w) a v h
@@ -279,10 +294,10 @@ unfolding bind
 bind_done a st next = refl
 
 module _ {W : Type 0} (row : Variable → VarAnswer) (n : ℕ) (name : Text) (old mid new : (Machine W)) (w : World) (here : Outer) (plain_name : is_unbuilt (bytes_of name) ≡ false) (told : here.told ≡ Some w) where
-  pub kept_runs : (done_with : Result (Unit {0}) CmdFault) (r : Result (Unit {0}) End) → Changes row n (bytes_of name) old.values mid.values done_with →
+  pub kept_runs : (done_with : Result (Unit {0}) CmdFault) (r : Result (Unit {0}) End) → Changes row n (naming (bytes_of name)) old.values mid.values done_with →
       mid.own ≡ old.own → mid.units ≡ old.units → mid.depth ≡ old.depth → mid.writes ≡ old.writes → SameState mid new →
       OnOk done_with ((r ≡ Ok tt) × (new.values.store.stack ≡ mid.values.store.stack)) → IfErr done_with (λ kind. EndsRefused kind mid.values.store.stack r new.values.store.stack) →
-      Runs (bind (of_answer (row (variable_seen (bytes_of name) old.values.vars old.values.store.cells)) (state_of old w)) (keep name)) as_result (start old w here.torn) r new here
+      Runs (bind (of_answer (row (variable_seen (naming (bytes_of name)) old.values.vars old.values.store.cells)) (state_of old w)) (keep name)) as_result (start old w here.torn) r new here
   kept_runs (Ok t) r h own units depth writes same p q =
       let k = h.keeps in
       let st = state_of old w in
@@ -300,9 +315,9 @@ module _ {W : Type 0} (row : Variable → VarAnswer) (n : ℕ) (name : Text) (ol
         depth = same.depth ∙ depth;
         events = same.events ∙ writes;
       } in
-      refused_as (row (variable_seen (bytes_of name) old.values.vars old.values.store.cells)) n old.values.store mid.values.store (keep name) as_result kind r old new w here told unchanged h.refuses q
+      refused_as (row (variable_seen (naming (bytes_of name)) old.values.vars old.values.store.cells)) n old.values.store mid.values.store (keep name) as_result kind r old new w here told unchanged h.refuses q
 
-module _ (row : Variable → VarAnswer) (n : ℕ) (name : List ℕ) (old mid : Holdings) where
+module _ (row : Variable → VarAnswer) (n : ℕ) (name : Naming) (old mid : Holdings) where
   pub kept_stack : (done_with : Result (Unit {0}) CmdFault) (r : Result (Unit {0}) End) (now : List Text) → Changes row n name old mid done_with →
       OnOk done_with ((r ≡ Ok tt) × (now ≡ mid.store.stack)) → IfErr done_with (λ kind. EndsRefused kind mid.store.stack r now) → PushesResult (under n old.store.stack) r now
   kept_stack (Ok t) r now h p q = results_stack n old.store.stack h.keeps.text r mid.store.stack now h.keeps.stack p.0 p.1
@@ -331,7 +346,7 @@ module _ {W : Type 0} (c : CellCommand) (call : Text) (old mid new : (Machine W)
 alone_on : {W : Type 0} → (c : CellCommand) (call : Text) (args : List Text) (st : (State W)) → args ≡ [] → bind (of_answer (row_of c call args Unset) st) (keep []) ≡ on_variable (named args) (row_of c call args) st
 alone_on c call args st e =
     ap (λ ws. bind (of_answer (row_of c call ws Unset) st) (keep [])) e
-    ∙ ap (λ a. bind (of_answer a st) (keep [])) (sym (alone_same c call (variable_seen (bytes_of []) st.tables.vars st.tables.texts)))
+    ∙ ap (λ a. bind (of_answer a st) (keep [])) (sym (alone_same c call (variable_seen (naming (bytes_of [])) st.tables.vars st.tables.texts)))
     ∙ ap (λ ws. on_variable (named ws) (row_of c call ws) st) (sym e)
 
 pub none_behind : (stack : List Text) → top 0 stack ≡ []
@@ -432,11 +447,8 @@ module _ (name : Text) (row : VarAnswer) (k : ℕ) (before after : View) (kind :
 
 -- ---- a variable by its name
 
-pub name_is : (bs : List ℕ) (name : Text) → bs ≡ bytes_of name → is_unbuilt bs ≡ false → is_unbuilt (bytes_of name) ≡ false
-name_is bs name e h = sym (ap is_unbuilt e) ∙ h
-
 pub on_built : {W : Type 0} → (name : Text) (row : Variable → VarAnswer) (st : (State W)) → is_unbuilt (bytes_of name) ≡ false →
-    bind (of_answer (row (variable_seen (bytes_of name) st.tables.vars st.tables.texts)) st) (keep name) ≡ on_variable name row st
+    bind (of_answer (row (variable_seen (naming (bytes_of name)) st.tables.vars st.tables.texts)) st) (keep name) ≡ on_variable name row st
 on_built name row st h = sym (cond-false _ _ _ h)
 
 pub on_unbuilt : {W : Type 0} → (bs : List ℕ) (name : Text) (row : Variable → VarAnswer) (st : (State W)) → bs ≡ bytes_of name → is_unbuilt bs ≡ true → unbuilt name (row WholeArray) st ≡ on_variable name row st

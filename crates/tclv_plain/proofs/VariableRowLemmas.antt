@@ -12,9 +12,9 @@ use Rattle.std.proofs.lemmas.List.Folds.{concat-append}
 use Rattle.tclv_io.specs.World.{World}
 use Rattle.tclv_text.specs.Numbers.{whole_text}
 use Rattle.tclv_value.specs.Stacks.{top}
-use Rattle.tclv_vars.specs.declared.places.Place.TheVariants as place
+use Rattle.tclv_reply.specs.Names.{naming}
 use Rattle.tclv_vars.specs.declared.faults.VarFault.{VarFault}
-use Rattle.tclv_vars.specs.Table.{Table, read}
+use Rattle.tclv_vars.specs.Table.{Table}
 use Rattle.tclv_model.specs.declared.messages.MessageId.TheVariants.{IntegerTooLarge}
 use Rattle.tclv_model.specs.declared.error_codes.ErrorCode.TheVariants.{Overflow}
 use Rattle.tclv_model.specs.declared.usages.Usage.TheVariants as command
@@ -24,7 +24,7 @@ use Rattle.tclv_engine.specs.declared.endings.End.TheVariants as end
 use Rattle.tclv_engine.specs.declared.machine.Machine.{Machine}
 use Rattle.tclv_engine.specs.State.{Text, State, state_of}
 use Rattle.tclv_engine.specs.Results.{Res, bind, done, ok, raise}
-use Rattle.tclv_engine.specs.Names.{bytes_of}
+use Rattle.tclv_engine.specs.Names.{bytes_of, read_named}
 use Rattle.tclv_engine.specs.Variables.{is_unbuilt, variable}
 use Rattle.tclv_engine.specs.Usages.{usage}
 use Rattle.tclv_engine.specs.Answers.{Outer, Start, start, Runs, SameState, Above, Over, KeepsStack, PushesOne, PushesResult, last_of, on_top, as_result}
@@ -84,7 +84,7 @@ set_value instead name st b e h = sym (cond-false _ _ _ (sym e ∙ h))
 pub unset-unbuilt : (bs : List ℕ) (name : Text) (vars : Table) → bs ≡ bytes_of name → is_unbuilt bs ≡ true → false ≡ is_unset name vars
 unset-unbuilt bs name vars e h = sym (cond-true _ _ _ (ap is_unbuilt (sym e) ∙ h))
 
-pub unset-read : (bs : List ℕ) (name : Text) (vars : Table) (r : Result ℕ VarFault) → bs ≡ bytes_of name → is_unbuilt bs ≡ false → read vars place.Frame (bytes_of name) None ≡ r → lacks_value r ≡ is_unset name vars
+pub unset-read : (bs : List ℕ) (name : Text) (vars : Table) (r : Result ℕ VarFault) → bs ≡ bytes_of name → is_unbuilt bs ≡ false → read_named vars (naming (bytes_of name)) ≡ r → lacks_value r ≡ is_unset name vars
 unset-read bs name vars r e h k = ap lacks_value (sym k) ∙ sym (cond-false _ _ _ (ap is_unbuilt (sym e) ∙ h))
 
 pub zero_written : chars (codes "0") ≡ codes "0"

@@ -1,13 +1,12 @@
 -- The rows of data commands that are handed a variable: what the answer of such a row does.
-use Rattle.std.specs.Prelude.{ℕ, if◌then◌else◌, Bool, List, [], ◌∷◌, None, Result, Ok, Err}
+use Rattle.std.specs.Prelude.{ℕ, if◌then◌else◌, Bool, List, [], ◌∷◌, Result, Ok, Err}
 use Rattle.std.specs.Option.{option_map_or}
 use Rattle.std.specs.Str.{bytes_eq}
 use Rattle.std.specs.Ordering.{nat_cmp}
 use Rattle.std.specs.FinMap.{FinMap, get}
-use Rattle.tclv_vars.specs.declared.places.Place.TheVariants as place
 use Rattle.tclv_vars.specs.declared.faults.VarFault.{VarFault}
 use Rattle.tclv_vars.specs.declared.faults.VarFault.TheVariants as fault
-use Rattle.tclv_vars.specs.Table.{Table, Spot, write}
+use Rattle.tclv_vars.specs.Table.{Table, Spot}
 use Rattle.tclv_model.specs.declared.messages.MessageId.TheVariants.{CannotReadArray}
 use Rattle.tclv_model.specs.Message.{text_of}
 use Rattle.tclv_model.specs.Rows.{Gives, Refuses, VarAnswer, Variable, Holds, Unset, WholeArray, PlainElement}
@@ -16,7 +15,8 @@ use Rattle.tclv_plain.specs.declared.cell_commands.CellCommand.{CellCommand}
 use Rattle.tclv_plain.specs.declared.cell_commands.CellCommand.TheVariants as command
 use Rattle.tclv_engine.specs.State.{Text, State, variables_in, texts_in}
 use Rattle.tclv_engine.specs.Results.{Res, Outcome, bind, ok, error}
-use Rattle.tclv_engine.specs.Names.{bytes_of}
+use Rattle.tclv_reply.specs.Names.{Naming, naming}
+use Rattle.tclv_engine.specs.Names.{bytes_of, write_named}
 use Rattle.tclv_engine.specs.Variables.{is_unbuilt, not_built, assign}
 use Rattle.tclv_engine.specs.Usages.{call_word}
 use Rattle.tclv_engine.specs.DataAnswers.{of_answer, arguments}
@@ -27,8 +27,8 @@ seen (Ok spot) texts = option_map_or Holds (get texts spot.cell) Unset
 seen (Err fault.NotArray) texts = PlainElement
 seen (Err f) texts = WholeArray
 
-abbrev pub variable_seen : List ℕ → Table → FinMap nat_cmp Text → Variable
-variable_seen name vars texts = seen (write vars place.Frame name None) texts
+abbrev pub variable_seen : Naming → Table → FinMap nat_cmp Text → Variable
+variable_seen n vars texts = seen (write_named vars n) texts
 
 -- the name of the variable, which is the first of the words behind the word of the call
 abbrev pub named : List Text → Text
@@ -50,7 +50,7 @@ unbuilt name (Gives kept) st = not_built st
 
 abbrev pub on_variable : {W : Type 0} → Text → (Variable → VarAnswer) → (State W) → Res W Outcome
 on_variable name row st =
-    if is_unbuilt (bytes_of name) then unbuilt name (row WholeArray) st else bind (of_answer (row (variable_seen (bytes_of name) (variables_in st) (texts_in st))) st) (keep name)
+    if is_unbuilt (bytes_of name) then unbuilt name (row WholeArray) st else bind (of_answer (row (variable_seen (naming (bytes_of name)) (variables_in st) (texts_in st))) st) (keep name)
 
 -- What a data command does whose row this is. Where the row refuses, the variable stays as it was.
 abbrev pub cell_row : {W : Type 0} → (Text → List Text → Variable → VarAnswer) → List Text → (State W) → Res W Outcome

@@ -1,18 +1,18 @@
 -- The rows of `set`, `incr` and `append`.
-use Rattle.std.specs.Prelude.{ℕ, ◌^◌, Bool, true, false, nat_lt, if◌then◌else◌, List, [], ◌∷◌, ◌++◌, None, Result, Ok, Err, ℤ, pos, negsuc, ◌+ℤ◌, codes}
+use Rattle.std.specs.Prelude.{ℕ, ◌^◌, Bool, true, false, nat_lt, if◌then◌else◌, List, [], ◌∷◌, ◌++◌, Result, Ok, Err, ℤ, pos, negsuc, ◌+ℤ◌, codes}
 use Rattle.std.specs.List.{concat}
 use Rattle.tclv_text.specs.Numbers.{whole_text}
-use Rattle.tclv_vars.specs.declared.places.Place.TheVariants as place
 use Rattle.tclv_vars.specs.declared.faults.VarFault.{VarFault}
 use Rattle.tclv_vars.specs.declared.faults.VarFault.TheVariants as fault
-use Rattle.tclv_vars.specs.Table.{Table, read}
+use Rattle.tclv_vars.specs.Table.{Table}
 use Rattle.tclv_model.specs.declared.messages.MessageId.TheVariants.{IntegerTooLarge}
 use Rattle.tclv_model.specs.declared.error_codes.ErrorCode.TheVariants.{Overflow}
 use Rattle.tclv_model.specs.declared.usages.Usage.TheVariants as command
 use Rattle.tclv_model.specs.Usages.{usage_of}
 use Rattle.tclv_engine.specs.State.{Text, State, variables_in}
 use Rattle.tclv_engine.specs.Results.{Res, Outcome, bind, done, ok, raise}
-use Rattle.tclv_engine.specs.Names.{bytes_of}
+use Rattle.tclv_reply.specs.Names.{naming}
+use Rattle.tclv_engine.specs.Names.{bytes_of, read_named}
 use Rattle.tclv_engine.specs.Variables.{is_unbuilt, variable, assign}
 use Rattle.tclv_engine.specs.Usages.{usage}
 use Rattle.tclv_engine.specs.WholeNumbers.{whole_number}
@@ -28,7 +28,7 @@ lacks_value (Err f) = false
 
 -- The variable of this name is unset. A name that isn't built yet is none of a variable.
 abbrev pub is_unset : Text → Table → Bool
-is_unset name vars = if is_unbuilt (bytes_of name) then false else lacks_value (read vars place.Frame (bytes_of name) None)
+is_unset name vars = if is_unbuilt (bytes_of name) then false else lacks_value (read_named vars (naming (bytes_of name)))
 
 -- The value of the variable of this name, and `instead` where it is unset.
 abbrev pub variable_or : {W : Type 0} → Text → Text → (State W) → Res W Text

@@ -5,6 +5,7 @@ ghost use Rattle.tclv_text.specs.Texts.{IsText};
 ghost use Rattle.tclv_value.specs.View.{HasPlace, IsMade, text_at};
 ghost use Rattle.tclv_value.specs.Stacks.{top, under};
 ghost use Rattle.tclv_model.specs.Rows.{Unset, WholeArray};
+ghost use Rattle.tclv_reply.specs.Names.{naming, shape_of};
 ghost use Rattle.tclv_reply.specs.Replies as replies;
 ghost use Rattle.tclv_plain.specs.CellRows as spec;
 ghost use Rattle.tclv_plain.specs.CellSteps as steps;
@@ -14,12 +15,15 @@ ghost use Rattle.tclv_engine.specs.Operations.{second_of};
 ghost use Rattle.tclv_engine.specs.Answers.{Answers, IsCalm, PushesResult, SameState, as_result};
 
 use crate::channels::is_word;
-use tclv_engine::{End, Machine, Values, is_unbuilt, message_text};
+use tclv_engine::{
+    End, Machine, Values, message_text, missing_named, take_back_named, write_named,
+};
 use tclv_lists::{cmd_lappend, cmd_lpop, cmd_lset};
 use tclv_model::{CmdFault, MessageId, VarState};
+use tclv_reply::NameShape;
 use tclv_text::{NoMemory, Text};
 use tclv_value::{At, Store};
-use tclv_vars::{Place, VarFault};
+use tclv_vars::VarFault;
 
 /// A data command that is handed a variable.
 #[derive(Clone, Copy, Debug, PartialEq, Eq)]
@@ -51,7 +55,8 @@ fn run_cell(
 ) -> Result<(), CmdFault>
     requires words { n + 1 ≤ length store.old.stack }
     requires named { replies.HasName variable n }
-    ensures { replies.VarAnswers (spec.row_of command (replies.call_word n store.old.stack) (top n store.old.stack) (replies.variable_of variable store.old)) variable n store.old store.new result }
+    ensures { replies.VarAnswers (spec.row_of command (replies.call_word n store.old.stack) (top n store.old.stack)
+        (replies.variable_of variable store.old)) variable n store.old store.new result }
 {
     match command {
         CellCommand::Lappend => cmd_lappend(store, variable, n),
@@ -73,7 +78,8 @@ fn copied(values: &Values, at: At) -> Result<Text, NoMemory>
 // The call of a data command on a variable without words.
 fn change_none(values: &mut Values, command: CellCommand) -> Result<(), CmdFault>
     requires { 1 ≤ length values.old.store.stack }
-    ensures answer { replies.VarAnswers (spec.row_of command (replies.call_word 0 values.old.store.stack) (top 0 values.old.store.stack) Unset) VarState.NoName 0 values.old.store values.new.store result }
+    ensures answer { replies.VarAnswers (spec.row_of command (replies.call_word 0 values.old.store.stack)
+        (top 0 values.old.store.stack) Unset) VarState.NoName 0 values.old.store values.new.store result }
     ensures same { SameVariables values.old values.new }
 {
     run_cell(&mut values.store, command, VarState::NoName, 0)
@@ -83,7 +89,8 @@ fn change_none(values: &mut Values, command: CellCommand) -> Result<(), CmdFault
 fn change_array(values: &mut Values, command: CellCommand, n: usize) -> Result<(), CmdFault>
     requires words { n + 1 ≤ length values.old.store.stack }
     requires some { 0 < n }
-    ensures answer { replies.VarAnswers (spec.row_of command (replies.call_word n values.old.store.stack) (top n values.old.store.stack) WholeArray) VarState.IsArray n values.old.store values.new.store result }
+    ensures answer { replies.VarAnswers (spec.row_of command (replies.call_word n values.old.store.stack)
+        (top n values.old.store.stack) WholeArray) VarState.IsArray n values.old.store values.new.store result }
     ensures same { SameVariables values.old values.new }
 {
     run_cell(&mut values.store, command, VarState::IsArray, n)
@@ -93,29 +100,43 @@ fn change_array(values: &mut Values, command: CellCommand, n: usize) -> Result<(
 // its words are the top `n` texts of the stack, above the word of the call. On `Ok` the result
 // stands in their place; on a refusal the message and the error code do, and the variables are
 // as before.
-fn change(values: &mut Values, command: CellCommand, n: usize) -> Result<(), CmdFault>
+fn change(
+    values: &mut Values,
+    command: CellCommand,
+    shape: NameShape,
+    n: usize,
+) -> Result<(), CmdFault>
     requires words { n + 1 ≤ length values.old.store.stack }
     requires some { 0 < n }
     requires made { IsMade values.old.store (At.Stack (length values.old.store.stack - n)) }
-    ensures { steps.Changes (spec.row_of command (replies.call_word n values.old.store.stack) (top n values.old.store.stack)) n (bytes_of (slice_index_or values.old.store.stack (length values.old.store.stack - n) [])) values.old values.new result }
+    requires shape { shape ≡ shape_of (bytes_of (slice_index_or values.old.store.stack (length values.old.store.stack - n) [])) }
+    ensures { steps.Changes (spec.row_of command (replies.call_word n values.old.store.stack) (top n values.old.store.stack)) n
+        (naming (bytes_of (slice_index_or values.old.store.stack (length values.old.store.stack - n) []))) values.old values.new result }
 {
     let name = At::Stack(values.height() - n);
-    match values.cell_at(name) {
+    match values.cell_at(name, shape) {
         Ok(cell) => run_cell(&mut values.store, command, VarState::Cell(cell), n),
-        Err(_) => change_unset(values, command, n),
+        Err(_) => change_unset(values, command, shape, n),
     }
 }
 
 // The same, where the variable may be unset.
-fn change_unset(values: &mut Values, command: CellCommand, n: usize) -> Result<(), CmdFault>
+fn change_unset(
+    values: &mut Values,
+    command: CellCommand,
+    shape: NameShape,
+    n: usize,
+) -> Result<(), CmdFault>
     requires words { n + 1 ≤ length values.old.store.stack }
     requires some { 0 < n }
     requires made { IsMade values.old.store (At.Stack (length values.old.store.stack - n)) }
-    ensures { steps.Changes (spec.row_of command (replies.call_word n values.old.store.stack) (top n values.old.store.stack)) n (bytes_of (slice_index_or values.old.store.stack (length values.old.store.stack - n) [])) values.old values.new result }
+    requires shape { shape ≡ shape_of (bytes_of (slice_index_or values.old.store.stack (length values.old.store.stack - n) [])) }
+    ensures { steps.Changes (spec.row_of command (replies.call_word n values.old.store.stack) (top n values.old.store.stack)) n
+        (naming (bytes_of (slice_index_or values.old.store.stack (length values.old.store.stack - n) []))) values.old values.new result }
 {
     let at = At::Stack(values.height() - n);
     let name = copied(values, at)?;
-    change_named(values, command, name.bytes(), n)
+    change_named(values, command, name.bytes(), shape, n)
 }
 
 // The same, where the name is none of the store's texts.
@@ -123,21 +144,24 @@ fn change_named(
     values: &mut Values,
     command: CellCommand,
     name: &[u8],
+    shape: NameShape,
     n: usize,
 ) -> Result<(), CmdFault>
     requires words { n + 1 ≤ length values.old.store.stack }
     requires some { 0 < n }
     requires name { IsText name.now }
-    ensures { steps.Changes (spec.row_of command (replies.call_word n values.old.store.stack) (top n values.old.store.stack)) n name.now values.old values.new result }
+    requires shape { shape ≡ shape_of name.now }
+    ensures { steps.Changes (spec.row_of command (replies.call_word n values.old.store.stack) (top n values.old.store.stack)) n
+        (naming name.now) values.old values.new result }
 {
-    let lacked = values.vars.missing(Place::Frame, name, None);
-    match values.vars.write(Place::Frame, name, None) {
+    let lacked = missing_named(&values.vars, name, shape);
+    match write_named(&mut values.vars, name, shape) {
         Ok((cell, fresh)) => {
             match run_cell(&mut values.store, command, VarState::Cell(cell), n) {
                 Ok(()) => Ok(()),
                 Err(kind) => {
                     if fresh {
-                        values.vars.take_back(Place::Frame, name, None, lacked);
+                        take_back_named(&mut values.vars, name, shape, lacked);
                     }
                     Err(kind)
                 }
@@ -180,7 +204,9 @@ fn cell_unbuilt<W>(machine: &mut Machine<W>, command: CellCommand, n: usize) -> 
     requires words { n ≤ length machine.old.values.store.stack }
     requires some { 1 < n }
     requires made { IsMade machine.old.values.store (At.Stack (length machine.old.values.store.stack - (n - 1))) }
-    ensures answer { Answers (spec.unbuilt (slice_index_or machine.old.values.store.stack (length machine.old.values.store.stack - (n - 1)) []) (spec.row_of command (replies.call_word (n - 1) machine.old.values.store.stack) (top (n - 1) machine.old.values.store.stack) WholeArray)) as_result machine.old result machine.new }
+    ensures answer { Answers (spec.unbuilt (slice_index_or machine.old.values.store.stack (length machine.old.values.store.stack - (n - 1)) [])
+        (spec.row_of command (replies.call_word (n - 1) machine.old.values.store.stack)
+        (top (n - 1) machine.old.values.store.stack) WholeArray)) as_result machine.old result machine.new }
     ensures stack { PushesResult (under n machine.old.values.store.stack) result machine.new.values.store.stack }
     ensures calm { IsCalm result }
     ensures units { machine.new.units ≡ machine.old.units }
@@ -207,16 +233,19 @@ fn cell_made<W>(machine: &mut Machine<W>, command: CellCommand, n: usize) -> Res
     requires words { n ≤ length machine.old.values.store.stack }
     requires some { 1 < n }
     requires made { IsMade machine.old.values.store (At.Stack (length machine.old.values.store.stack - (n - 1))) }
-    ensures answer { Answers (spec.on_variable (slice_index_or machine.old.values.store.stack (length machine.old.values.store.stack - (n - 1)) []) (spec.row_of command (replies.call_word (n - 1) machine.old.values.store.stack) (top (n - 1) machine.old.values.store.stack))) as_result machine.old result machine.new }
+    ensures answer { Answers (spec.on_variable (slice_index_or machine.old.values.store.stack (length machine.old.values.store.stack - (n - 1)) [])
+        (spec.row_of command (replies.call_word (n - 1) machine.old.values.store.stack)
+        (top (n - 1) machine.old.values.store.stack))) as_result machine.old result machine.new }
     ensures stack { PushesResult (under n machine.old.values.store.stack) result machine.new.values.store.stack }
     ensures calm { IsCalm result }
     ensures units { machine.new.units ≡ machine.old.units }
 {
     let name = At::Stack(machine.values.height() - (n - 1));
-    if is_unbuilt(machine.values.lend(name)) {
+    let shape = machine.values.shape_at(name);
+    if shape.qualified {
         return cell_unbuilt(machine, command, n);
     }
-    let done = change(&mut machine.values, command, n - 1);
+    let done = change(&mut machine.values, command, shape, n - 1);
     machine.end_data(done)
 }
 

@@ -55,8 +55,11 @@ fn write_text<W, O: Outside>(
     out: &mut O,
 ) -> Result<(), End>
     requires { HasPlace machine.old.values.store text }
-    ensures answer { AnswersOver (spec.write (spec.target_of channel) (bytes_of (spec.line newline (text_at machine.old.values.store text)))) returned machine.old (outer (O.told out.old) (O.torn out.old)) result machine.new (outer (O.told out.new) (O.torn out.new)) }
-    ensures quiet { spec.IsQuiet {W = W} (spec.write (spec.target_of channel) (bytes_of (spec.line newline (text_at machine.old.values.store text)))) out.old out.new }
+    ensures answer { AnswersOver (spec.write (spec.target_of channel)
+        (bytes_of (spec.line newline (text_at machine.old.values.store text)))) returned machine.old
+        (outer (O.told out.old) (O.torn out.old)) result machine.new (outer (O.told out.new) (O.torn out.new)) }
+    ensures quiet { spec.IsQuiet {W = W} (spec.write (spec.target_of channel)
+        (bytes_of (spec.line newline (text_at machine.old.values.store text)))) out.old out.new }
     ensures cause { Caused (O.faults out.old) (O.faults out.new) result }
     ensures no_code { spec.HasNoCode result }
     ensures stack { machine.new.values.store.stack ≡ machine.old.values.store.stack }
@@ -80,7 +83,8 @@ fn put<W, O: Outside>(
     out: &mut O,
 ) -> Result<(), End>
     requires { HasPlace machine.old.values.store text }
-    ensures answer { AnswersOver (spec.put channel (spec.line newline (text_at machine.old.values.store text))) as_result machine.old (outer (O.told out.old) (O.torn out.old)) result machine.new (outer (O.told out.new) (O.torn out.new)) }
+    ensures answer { AnswersOver (spec.put channel (spec.line newline (text_at machine.old.values.store text))) as_result machine.old
+        (outer (O.told out.old) (O.torn out.old)) result machine.new (outer (O.told out.new) (O.torn out.new)) }
     ensures quiet { spec.IsQuiet {W = W} (spec.put channel (spec.line newline (text_at machine.old.values.store text))) out.old out.new }
     ensures cause { Caused (O.faults out.old) (O.faults out.new) result }
     ensures stack { PushesOne machine.old.values.store.stack result machine.new.values.store.stack }
@@ -101,8 +105,11 @@ fn put_named<W, O: Outside>(
 ) -> Result<(), End>
     requires name { HasPlace machine.old.values.store name }
     requires text { HasPlace machine.old.values.store text }
-    ensures answer { AnswersOver (spec.put_named (text_at machine.old.values.store name) (spec.line newline (text_at machine.old.values.store text))) as_result machine.old (outer (O.told out.old) (O.torn out.old)) result machine.new (outer (O.told out.new) (O.torn out.new)) }
-    ensures quiet { spec.IsQuiet {W = W} (spec.put_named (text_at machine.old.values.store name) (spec.line newline (text_at machine.old.values.store text))) out.old out.new }
+    ensures answer { AnswersOver (spec.put_named (text_at machine.old.values.store name)
+        (spec.line newline (text_at machine.old.values.store text))) as_result machine.old
+        (outer (O.told out.old) (O.torn out.old)) result machine.new (outer (O.told out.new) (O.torn out.new)) }
+    ensures quiet { spec.IsQuiet {W = W} (spec.put_named (text_at machine.old.values.store name)
+        (spec.line newline (text_at machine.old.values.store text))) out.old out.new }
     ensures cause { Caused (O.faults out.old) (O.faults out.new) result }
     ensures stack { PushesOne machine.old.values.store.stack result machine.new.values.store.stack }
     ensures units { machine.new.units ≡ machine.old.units }
@@ -123,7 +130,8 @@ fn put_two<W, O: Outside>(
 ) -> Result<(), End>
     requires first { HasPlace machine.old.values.store first }
     requires text { HasPlace machine.old.values.store text }
-    ensures answer { AnswersOver (spec.put_two (text_at machine.old.values.store first) (text_at machine.old.values.store text)) as_result machine.old (outer (O.told out.old) (O.torn out.old)) result machine.new (outer (O.told out.new) (O.torn out.new)) }
+    ensures answer { AnswersOver (spec.put_two (text_at machine.old.values.store first) (text_at machine.old.values.store text)) as_result machine.old
+        (outer (O.told out.old) (O.torn out.old)) result machine.new (outer (O.told out.new) (O.torn out.new)) }
     ensures quiet { spec.IsQuiet {W = W} (spec.put_two (text_at machine.old.values.store first) (text_at machine.old.values.store text)) out.old out.new }
     ensures cause { Caused (O.faults out.old) (O.faults out.new) result }
     ensures stack { PushesOne machine.old.values.store.stack result machine.new.values.store.stack }
@@ -150,8 +158,11 @@ fn put_three<W, O: Outside>(
     requires option { HasPlace machine.old.values.store option }
     requires channel { HasPlace machine.old.values.store channel }
     requires text { HasPlace machine.old.values.store text }
-    ensures answer { AnswersOver (spec.put_three (text_at machine.old.values.store word) (text_at machine.old.values.store option) (text_at machine.old.values.store channel) (text_at machine.old.values.store text)) as_result machine.old (outer (O.told out.old) (O.torn out.old)) result machine.new (outer (O.told out.new) (O.torn out.new)) }
-    ensures quiet { spec.IsQuiet {W = W} (spec.put_three (text_at machine.old.values.store word) (text_at machine.old.values.store option) (text_at machine.old.values.store channel) (text_at machine.old.values.store text)) out.old out.new }
+    ensures answer { AnswersOver (spec.put_three (text_at machine.old.values.store word) (text_at machine.old.values.store option)
+        (text_at machine.old.values.store channel) (text_at machine.old.values.store text)) as_result machine.old
+        (outer (O.told out.old) (O.torn out.old)) result machine.new (outer (O.told out.new) (O.torn out.new)) }
+    ensures quiet { spec.IsQuiet {W = W} (spec.put_three (text_at machine.old.values.store word) (text_at machine.old.values.store option)
+        (text_at machine.old.values.store channel) (text_at machine.old.values.store text)) out.old out.new }
     ensures cause { Caused (O.faults out.old) (O.faults out.new) result }
     ensures stack { PushesOne machine.old.values.store.stack result machine.new.values.store.stack }
     ensures units { machine.new.units ≡ machine.old.units }
@@ -171,7 +182,8 @@ fn put_three<W, O: Outside>(
 pub fn cmd_puts<W, O: Outside>(machine: &mut Machine<W>, n: usize, out: &mut O) -> Result<(), End>
     requires words { n ≤ length machine.old.values.store.stack }
     requires some { 0 < n }
-    ensures answer { AnswersOver (spec.row_puts (top n machine.old.values.store.stack)) as_result machine.old (outer (O.told out.old) (O.torn out.old)) result machine.new (outer (O.told out.new) (O.torn out.new)) }
+    ensures answer { AnswersOver (spec.row_puts (top n machine.old.values.store.stack)) as_result machine.old
+        (outer (O.told out.old) (O.torn out.old)) result machine.new (outer (O.told out.new) (O.torn out.new)) }
     ensures quiet { spec.IsQuiet {W = W} (spec.row_puts (top n machine.old.values.store.stack)) out.old out.new }
     ensures cause { Caused (O.faults out.old) (O.faults out.new) result }
     ensures stack { PushesResult (under n machine.old.values.store.stack) result machine.new.values.store.stack }

@@ -73,7 +73,8 @@ pub fn write_piece<W, O: Outside>(
     piece: &[u8],
     out: &mut O,
 ) -> Result<(), End>
-    ensures answer { (m : Machine W) → AnswersOver (spec.write (spec.target_of channel) piece.now) returned (record m { writes = writes.old }) (outer (O.told out.old) (O.torn out.old)) result (record m { writes = writes.new }) (outer (O.told out.new) (O.torn out.new)) }
+    ensures answer { (m : Machine W) → AnswersOver (spec.write (spec.target_of channel) piece.now) returned (record m { writes = writes.old })
+        (outer (O.told out.old) (O.torn out.old)) result (record m { writes = writes.new }) (outer (O.told out.new) (O.torn out.new)) }
     ensures cause { Caused (O.faults out.old) (O.faults out.new) result }
     ensures quiet { spec.IsQuiet {W = W} (spec.write (spec.target_of channel) piece.now) out.old out.new }
     ensures no_code { spec.HasNoCode result }
@@ -100,7 +101,8 @@ pub fn write_on<W, O: Outside>(
     piece: &[u8],
     out: &mut O,
 ) -> Result<(), End>
-    ensures answer { AnswersOver (spec.write (spec.target_of channel) piece.now) returned machine.old (outer (O.told out.old) (O.torn out.old)) result machine.new (outer (O.told out.new) (O.torn out.new)) }
+    ensures answer { AnswersOver (spec.write (spec.target_of channel) piece.now) returned machine.old
+        (outer (O.told out.old) (O.torn out.old)) result machine.new (outer (O.told out.new) (O.torn out.new)) }
     ensures cause { Caused (O.faults out.old) (O.faults out.new) result }
     ensures quiet { spec.IsQuiet {W = W} (spec.write (spec.target_of channel) piece.now) out.old out.new }
     ensures no_code { spec.HasNoCode result }

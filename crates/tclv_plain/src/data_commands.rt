@@ -62,7 +62,8 @@ fn run_data(store: &mut Store, command: DataCommand, n: usize) -> Result<(), Cmd
 // The same on the values of a run.
 fn call_data(values: &mut Values, command: DataCommand, n: usize) -> Result<(), CmdFault>
     requires { n + 1 ≤ length values.old.store.stack }
-    ensures answer { replies.Answers (spec.row_of command (replies.call_word n values.old.store.stack) (top n values.old.store.stack)) n values.old.store values.new.store result }
+    ensures answer { replies.Answers (spec.row_of command (replies.call_word n values.old.store.stack)
+        (top n values.old.store.stack)) n values.old.store values.new.store result }
     ensures same { SameVariables values.old values.new }
 {
     run_data(&mut values.store, command, n)

@@ -27,7 +27,8 @@ fn push_rest<W>(
     requires place { list < length machine.old.values.store.stack }
     requires list { IsList (text_at machine.old.values.store (At.Stack list)) }
     requires len { len ≡ length (listed (text_at machine.old.values.store (At.Stack list))) }
-    ensures pushed { OnOk result (machine.new.values.store.stack ≡ machine.old.values.store.stack ++ list_text (drop from (listed (text_at machine.old.values.store (At.Stack list)))) ∷ []) }
+    ensures pushed { OnOk result (machine.new.values.store.stack ≡ machine.old.values.store.stack
+        ++ list_text (drop from (listed (text_at machine.old.values.store (At.Stack list)))) ∷ []) }
     ensures same { SameState machine.old machine.new }
 {
     let height = machine.values.height();
@@ -43,7 +44,8 @@ fn assign_list<W>(machine: &mut Machine<W>, list: usize, len: u64) -> Result<(),
     requires place { list < length machine.old.values.store.stack }
     requires list { IsList (text_at machine.old.values.store (At.Stack list)) }
     requires len { len ≡ length (listed (text_at machine.old.values.store (At.Stack list))) }
-    ensures answer { Answers (spec.assign_list (drop (list + 1) machine.old.values.store.stack) (listed (text_at machine.old.values.store (At.Stack list)))) as_result machine.old result machine.new }
+    ensures answer { Answers (spec.assign_list (drop (list + 1) machine.old.values.store.stack)
+        (listed (text_at machine.old.values.store (At.Stack list)))) as_result machine.old result machine.new }
     ensures stack { PushesOne machine.old.values.store.stack result machine.new.values.store.stack }
     ensures calm { IsCalm result }
     ensures units { machine.new.units ≡ machine.old.units }
@@ -57,7 +59,8 @@ fn assign_list<W>(machine: &mut Machine<W>, list: usize, len: u64) -> Result<(),
 // The same, where the text of the place may be no list.
 fn assign_elements<W>(machine: &mut Machine<W>, list: usize) -> Result<(), End>
     requires { list < length machine.old.values.store.stack }
-    ensures answer { Answers (λ st. bind (of_answer (list_of (text_at machine.old.values.store (At.Stack list))) st) (spec.assign_list (drop (list + 1) machine.old.values.store.stack))) as_result machine.old result machine.new }
+    ensures answer { Answers (λ st. bind (of_answer (list_of (text_at machine.old.values.store (At.Stack list))) st)
+        (spec.assign_list (drop (list + 1) machine.old.values.store.stack))) as_result machine.old result machine.new }
     ensures stack { PushesOne machine.old.values.store.stack result machine.new.values.store.stack }
     ensures calm { IsCalm result }
     ensures units { machine.new.units ≡ machine.old.units }

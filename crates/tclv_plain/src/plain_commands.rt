@@ -42,7 +42,8 @@ pub fn run_plain<W, O: Outside>(
 ) -> Result<(), End>
     requires words { n ≤ length machine.old.values.store.stack }
     requires some { 0 < n }
-    ensures answer { AnswersOver (spec.plain_row command (top n machine.old.values.store.stack)) as_result machine.old (outer (O.told out.old) (O.torn out.old)) result machine.new (outer (O.told out.new) (O.torn out.new)) }
+    ensures answer { AnswersOver (spec.plain_row command (top n machine.old.values.store.stack)) as_result machine.old
+        (outer (O.told out.old) (O.torn out.old)) result machine.new (outer (O.told out.new) (O.torn out.new)) }
     ensures stack { PushesResult (under n machine.old.values.store.stack) result machine.new.values.store.stack }
     ensures cause { Caused (O.faults out.old) (O.faults out.new) result }
     ensures units { machine.new.units ≡ machine.old.units }

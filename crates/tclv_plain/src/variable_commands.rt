@@ -12,7 +12,7 @@ ghost use Rattle.tclv_engine.specs.Variables.{variable};
 ghost use Rattle.tclv_plain.specs.VariableRows as spec;
 
 use crate::misuse::misused;
-use tclv_engine::{End, Machine, is_unbuilt};
+use tclv_engine::{End, Machine};
 use tclv_model::{ErrorCode, MessageId, Usage};
 use tclv_text::{NoMemory, Text};
 use tclv_value::At;
@@ -44,10 +44,11 @@ fn is_made_unset<W>(machine: &Machine<W>, name: At) -> bool
     requires made { IsMade machine.now.values.store name }
     ensures { result ≡ spec.is_unset (text_at machine.now.values.store name) machine.now.values.vars }
 {
-    if is_unbuilt(machine.values.lend(name)) {
+    let shape = machine.values.shape_at(name);
+    if shape.qualified {
         return false;
     }
-    lacks_value(machine.values.cell_at(name))
+    lacks_value(machine.values.cell_at(name, shape))
 }
 
 // Whether the variable whose name is the text of a place is unset.
@@ -93,7 +94,8 @@ fn read_result<W>(machine: &mut Machine<W>, name: usize) -> Result<(), End>
 // Sets the variable whose name is this place of the stack to the top text, which is the result.
 fn assign_result<W>(machine: &mut Machine<W>, name: usize) -> Result<(), End>
     requires { name < length machine.old.values.store.stack }
-    ensures answer { Answers (spec.assign_result (text_at machine.old.values.store (At.Stack name)) (last_of machine.old.values.store.stack)) as_result machine.old result machine.new }
+    ensures answer { Answers (spec.assign_result (text_at machine.old.values.store (At.Stack name))
+        (last_of machine.old.values.store.stack)) as_result machine.old result machine.new }
     ensures stack { KeepsStack machine.old.values.store.stack result machine.new.values.store.stack }
     ensures calm { IsCalm result }
     ensures units { machine.new.units ≡ machine.old.units }
@@ -154,7 +156,8 @@ fn assign_sum<W>(machine: &mut Machine<W>, name: usize, n: i64, increment: i64) 
 // Sets the variable to the sum of the number that the top text is, and an increment.
 fn increase_from<W>(machine: &mut Machine<W>, name: usize, increment: i64) -> Result<(), End>
     requires { name < length machine.old.values.store.stack }
-    ensures answer { Answers (spec.increase_from (text_at machine.old.values.store (At.Stack name)) increment (last_of machine.old.values.store.stack)) as_result machine.old result machine.new }
+    ensures answer { Answers (spec.increase_from (text_at machine.old.values.store (At.Stack name)) increment
+        (last_of machine.old.values.store.stack)) as_result machine.old result machine.new }
     ensures stack { PushesOne machine.old.values.store.stack result machine.new.values.store.stack }
     ensures calm { IsCalm result }
     ensures units { machine.new.units ≡ machine.old.units }
@@ -180,7 +183,8 @@ fn increase<W>(machine: &mut Machine<W>, name: usize, increment: i64) -> Result<
 fn increase_by<W>(machine: &mut Machine<W>, name: usize, increment: At) -> Result<(), End>
     requires name { name < length machine.old.values.store.stack }
     requires increment { HasPlace machine.old.values.store increment }
-    ensures answer { Answers (spec.increase_by (text_at machine.old.values.store (At.Stack name)) (text_at machine.old.values.store increment)) as_result machine.old result machine.new }
+    ensures answer { Answers (spec.increase_by (text_at machine.old.values.store (At.Stack name))
+        (text_at machine.old.values.store increment)) as_result machine.old result machine.new }
     ensures stack { PushesResult machine.old.values.store.stack result machine.new.values.store.stack }
     ensures calm { IsCalm result }
     ensures units { machine.new.units ≡ machine.old.units }
@@ -276,7 +280,9 @@ fn assign_text<W>(machine: &mut Machine<W>, name: usize, text: &[u8]) -> Result<
 fn append_between<W>(machine: &mut Machine<W>, name: usize, last: usize) -> Result<(), End>
     requires name { name < last }
     requires last { length machine.old.values.store.stack ≡ last + 1 }
-    ensures answer { Answers (spec.assign_result (text_at machine.old.values.store (At.Stack name)) (last_of machine.old.values.store.stack ++ concat (take (last - (name + 1)) (drop (name + 1) machine.old.values.store.stack)))) as_result machine.old result machine.new }
+    ensures answer { Answers (spec.assign_result (text_at machine.old.values.store (At.Stack name))
+        (last_of machine.old.values.store.stack ++ concat
+        (take (last - (name + 1)) (drop (name + 1) machine.old.values.store.stack)))) as_result machine.old result machine.new }
     ensures stack { PushesOne machine.old.values.store.stack result machine.new.values.store.stack }
     ensures calm { IsCalm result }
     ensures units { machine.new.units ≡ machine.old.units }
@@ -289,7 +295,8 @@ fn append_between<W>(machine: &mut Machine<W>, name: usize, last: usize) -> Resu
 // stands there.
 fn append_all<W>(machine: &mut Machine<W>, name: usize) -> Result<(), End>
     requires { name < length machine.old.values.store.stack }
-    ensures answer { Answers (spec.append_all (text_at machine.old.values.store (At.Stack name)) (drop (name + 1) machine.old.values.store.stack)) as_result machine.old result machine.new }
+    ensures answer { Answers (spec.append_all (text_at machine.old.values.store (At.Stack name))
+        (drop (name + 1) machine.old.values.store.stack)) as_result machine.old result machine.new }
     ensures stack { PushesResult machine.old.values.store.stack result machine.new.values.store.stack }
     ensures calm { IsCalm result }
     ensures units { machine.new.units ≡ machine.old.units }

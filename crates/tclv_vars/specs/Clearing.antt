@@ -1,5 +1,5 @@
 -- Cells that hold nothing any more: after an unset, and where names go with their cells.
-use Rattle.std.specs.Prelude.{◌≡◌, ℕ, zero, suc, ◌-◌, ◌&&◌, ◌≢◌, Bool, true, false, not, nat_eq, is_some, List, [], ◌∷◌, length, Option, None, Some}
+use Rattle.std.specs.Prelude.{◌≡◌, ℕ, zero, suc, ◌-◌, ◌&&◌, ◌≢◌, Bool, true, false, not, nat_eq, nat_lt, if◌then◌else◌, is_some, List, [], ◌∷◌, length, Option, None, Some}
 use Rattle.std.specs.List.{list_any}
 use Rattle.std.specs.FinMap.{get, retain_keys}
 use Rattle.tclv_names.specs.Keyed.{Text, Named, Numbers, values_of}
@@ -59,6 +59,22 @@ ended_by (suc n) t = ended_by n (last_ended t)
 unfoldable pub left_by : {X : Type 0} → ℕ → Table → Numbers X → Numbers X
 left_by zero t texts = texts
 left_by (suc n) t texts = left_by n (last_ended t) (without_names texts t.contents (last_names t.scopes))
+
+-- The frames behind the first `count` end, the last first.
+abbrev pub ended_behind : ℕ → Table → Table
+ended_behind count t = ended_by (length t.scopes.frames - count) t
+
+-- What is kept of the cells' texts then.
+abbrev pub left_behind : {X : Type 0} → ℕ → Table → Numbers X → Numbers X
+left_behind count t texts = left_by (length t.scopes.frames - count) t texts
+
+-- A frame is current, where it is there.
+abbrev pub current_if_there : ℕ → Table → Table
+current_if_there i t = if nat_lt i (length t.scopes.frames) then at_scopes t (at_frame t.scopes i) else t
+
+-- The frames behind the first `count` end, and then this one is current, where it is there.
+abbrev pub back_in : ℕ → ℕ → Table → Table
+back_in count frame t = current_if_there frame (ended_behind count t)
 
 -- All frames but the global one end, the last first, and the global one is current.
 abbrev pub outermost : Table → Table

@@ -1,6 +1,6 @@
-// The end of all frames but the global one.
-ghost use Rattle.std.specs.Prelude.{◌≡◌, ◌+◌, ◌<◌, length};
-ghost use Rattle.tclv_vars.specs.Clearing.{last_ended, outermost, outermost_texts, without_names, IsOutermost, Tied};
+// The end of all frames but the global one, and of those behind some.
+ghost use Rattle.std.specs.Prelude.{◌≡◌, ◌+◌, ◌<◌, ◌≤◌, length};
+ghost use Rattle.tclv_vars.specs.Clearing.{last_ended, ended_behind, left_behind, back_in, outermost, outermost_texts, without_names, IsOutermost, Tied};
 ghost use Rattle.tclv_vars.specs.Scoping.{last_names};
 
 use crate::variables::Vars;
@@ -16,10 +16,39 @@ impl Vars {
         ensures stack { store.new.stack ≡ store.old.stack }
         ensures tied { Tied self.old store.old.cells → Tied self.new store.new.cells }
     {
-        while self.frame_count() > 1 {
+        self.end_behind(store, 1);
+        self.use_frame(0);
+    }
+
+    /// Ends the frames behind the first `count`, the last first, each as `pop_frame` does, whichever
+    /// frame is current. Then the frame of that number is current, where it is there. Takes no memory.
+    /// Source: proc(n), uplevel(n).
+    pub fn back_to_frame(&mut self, store: &mut Store, count: usize, frame: usize)
+        requires { 0 < count }
+        ensures ended { self.new ≡ back_in count frame self.old }
+        ensures texts { store.new.cells ≡ left_behind count self.old store.old.cells }
+        ensures stack { store.new.stack ≡ store.old.stack }
+        ensures tied { Tied self.old store.old.cells → Tied self.new store.new.cells }
+    {
+        self.end_behind(store, count);
+        if frame < self.frame_count() {
+            self.use_frame(frame);
+        }
+    }
+
+    // Ends the frames behind the first `count`, the last first.
+    fn end_behind(&mut self, store: &mut Store, count: usize)
+        requires { 0 < count }
+        ensures ended { self.new ≡ ended_behind count self.old }
+        ensures texts { store.new.cells ≡ left_behind count self.old store.old.cells }
+        ensures few { length self.new.scopes.frames ≤ count }
+        ensures some { 0 < length self.new.scopes.frames }
+        ensures stack { store.new.stack ≡ store.old.stack }
+        ensures tied { Tied self.old store.old.cells → Tied self.new store.new.cells }
+    {
+        while self.frame_count() > count {
             self.end_last(store);
         }
-        self.use_frame(0);
     }
 
     // Ends the last frame, whichever is current.

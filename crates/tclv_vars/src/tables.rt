@@ -132,7 +132,8 @@ impl Tables {
     // The array in the cell gets one more element.
     fn grow_array(&mut self, cell: u64, index: &[u8]) -> Result<(u64, bool), VarFault>
         requires array { HoldsArray (map.get self.old.cells.map cell) }
-        ensures made { Gives (Ok (new_element (table_of self.old) cell (elements_of (map.get self.old.cells.map cell)) index.now)) (table_of self.old) result (table_of self.new) }
+        ensures made { Gives (Ok (new_element (table_of self.old) cell (elements_of (map.get self.old.cells.map cell)) index.now))
+            (table_of self.old) result (table_of self.new) }
         ensures room { self.new.cells.room ≡ self.old.cells.room }
     {
         let element = self.next;
@@ -154,7 +155,8 @@ impl Tables {
     // The cell of the element, which is made where there is none.
     fn locate_element(&mut self, cell: u64, index: &[u8]) -> Result<(u64, bool), VarFault>
         requires room { 1 ≤ self.old.cells.room }
-        ensures found { Gives (locate_element (table_of self.old) cell (map.get self.old.cells.map cell) index.now) (table_of self.old) result (table_of self.new) }
+        ensures found { Gives (locate_element (table_of self.old) cell (map.get self.old.cells.map cell) index.now) (table_of self.old) result
+            (table_of self.new) }
         ensures room { self.old.cells.room ≤ self.new.cells.room + 1 }
     {
         match self.cells.get(cell) {

@@ -81,7 +81,8 @@ impl Vars {
     ) -> Result<(u64, bool), VarFault>
         requires name { IsText name.now }
         requires index { IfSome (option_copied index) IsText }
-        ensures written { IfOk result (λ p. write self.old at name.now (option_copied index.entry) ≡ Ok (record { cell = p.0; fresh = p.1; after = self.new })) }
+        ensures written { IfOk result (λ p. write self.old at name.now (option_copied index.entry)
+            ≡ Ok (record { cell = p.0; fresh = p.1; after = self.new })) }
         ensures refused { IfErr result (Refuses (write self.old at name.now (option_copied index.entry))) }
         ensures same { OnErr result (self.new ≡ self.old) }
         ensures value { IfOk result (λ p. (c : ℕ) → has_value self.new c ≡ (nat_eq c p.0 || has_value self.old c)) }

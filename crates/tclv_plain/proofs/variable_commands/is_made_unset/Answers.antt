@@ -1,11 +1,16 @@
-use Rattle.std.proofs.Common.{sym, ◌∙◌}
-use Rattle.tclv_engine.proofs.NameLemmas.{bytes-are}
+use Rattle.std.proofs.Common.{sym, ◌∙◌, ap, refl}
+use Rattle.tclv_value.specs.View.{text_at}
+use Rattle.tclv_engine.specs.Names.{bytes_of}
 use Rattle.tclv_plain.proofs.VariableRowLemmas.{unset-unbuilt, unset-read}
 use Rattle.tclv_plain.proofs.variable_commands.is_made_unset.Goals as goal
 
-pub returns-then-is_unbuilt : goal.returns-then-is_unbuilt
-returns-then-is_unbuilt g c = unset-unbuilt c.lend.result.now _ c.args.machine.now.values.vars (bytes-are _ _ c.lend.ensures.utf8 c.lend.ensures.text) (sym c.is_unbuilt.ensures ∙ c.if-is_unbuilt.true)
+pub returns-then-shape : goal.returns-then-shape
+returns-then-shape g c =
+    let name = text_at c.args.machine.now.values.store c.args.name in
+    unset-unbuilt (bytes_of name) name c.args.machine.now.values.vars refl (sym (ap (λ s. s.qualified) c.shape_at-shape.ensures) ∙ c.if-shape.true)
 
 pub returns : goal.returns
 returns g c =
-    c.lacks_value.ensures ∙ unset-read c.lend.result.now _ c.args.machine.now.values.vars _ (bytes-are _ _ c.lend.ensures.utf8 c.lend.ensures.text) (sym c.is_unbuilt.ensures ∙ c.if-is_unbuilt.false) (sym c.cell_at.ensures.answer)
+    let name = text_at c.args.machine.now.values.store c.args.name in
+    c.lacks_value.ensures
+    ∙ unset-read (bytes_of name) name c.args.machine.now.values.vars _ refl (sym (ap (λ s. s.qualified) c.shape_at-shape.ensures) ∙ c.if-shape.false) (sym c.cell_at.ensures.answer)

@@ -1,10 +1,10 @@
-use Rattle.std.proofs.Common.{◌≡◌, ◌<◌, ◌≤◌, ◌+◌, ◌-◌, ◌∷◌, [], ◌++◌, length, rules, arith, subst, sym, ap, ◌∙◌, ℕ, Ok, Err, refl, drop, take, get_or, true, false, if◌then◌else◌}
+use Rattle.std.proofs.Common.{◌≡◌, List, ◌<◌, ◌≤◌, ◌+◌, ◌-◌, ◌∷◌, [], ◌++◌, length, rules, arith, subst, sym, ap, ◌∙◌, ℕ, Ok, Err, refl, drop, take, get_or, true, false, if◌then◌else◌}
 use Rattle.tclv_model.specs.declared.messages.MessageId.TheVariants as message
 use Rattle.tclv_model.specs.declared.error_codes.ErrorCode.TheVariants.{NoCode}
-use Rattle.tclv_engine.specs.State.{state_of}
+use Rattle.tclv_engine.specs.State.{Text, state_of}
 use Rattle.tclv_engine.specs.Results.{done, ok, plain, bind}
 use Rattle.tclv_engine.specs.Words.{words, joined, part_value, expanded, bracketed}
-use Rattle.tclv_engine.specs.Variables.{variable}
+use Rattle.tclv_engine.specs.Variables.{variable, element_value}
 use Rattle.tclv_engine.specs.Evaluation.{whole, steady, lead, choose, perform, sequence, command, call}
 use Rattle.tclv_engine.specs.declared.plans.Plan.{Plan}
 use Rattle.tclv_engine.specs.Plans.{PlanOver, placed, placed_or_none, wanted_of, lead_of, alternatives_of, concluded}
@@ -270,7 +270,7 @@ part-returns-in-Variable-clause-answer g t c w told =
 
 pub part-returns-in-Element-clause-answer : goal.part-returns-in-Element-clause-answer
 part-returns-in-Element-clause-answer g t c w told =
-    runs_as (element-part c.args.levels (whole g.H.Host.given) c.args.part.now (state_of c.args.self.now w) c.in-Element.field-0 c.in-Element.index c.in-Element.is)
+    runs_as (element-part c.args.levels (whole g.H.Host.given) c.args.part.now (state_of c.args.self.now w) c.in-Element.name c.in-Element.index c.in-Element.is)
     (c.element.ensures.answer w told)
 
 pub part-returns-in_err-script-in-Script-clause-answer : goal.part-returns-in_err-script-in-Script-clause-answer
@@ -287,19 +287,30 @@ part-returns-in_ok-script-in-Script-clause-answer g t c w told =
 
 pub element-returns-then-levels-eq0-clause-answer : goal.element-returns-then-levels-eq0-clause-answer
 element-returns-then-levels-eq0-clause-answer g t c w told =
-    runs_as (element-end c.args.levels (whole g.H.Host.given) c.args.index.now (state_of c.args.self.now w) c.if-levels-eq0.true)
+    runs_as (element-end c.args.levels (whole g.H.Host.given) c.args.name.now c.args.index.now (state_of c.args.self.now w) c.if-levels-eq0.true)
     (raise_bare c.args.self.now message.TooManyNestedBrackets message.TooManyNestedBrackets NoCode NoCode told c.raise.ensures.same refl refl c.raise.ensures.raises)
 
 pub element-returns-in_err-substitute-clause-answer : goal.element-returns-in_err-substitute-clause-answer
 element-returns-in_err-substitute-clause-answer g t c w told =
-    runs_as (element-step c.args.levels (whole g.H.Host.given) c.args.index.now (state_of c.args.self.now w) (search (rules, c.if-levels-eq0.false)))
+    runs_as (element-step c.args.levels (whole g.H.Host.given) c.args.name.now c.args.index.now (state_of c.args.self.now w) (search (rules, c.if-levels-eq0.false)))
     (then_stop _ (search rules) (c.in_err-substitute.ensures.answer w told))
 
 pub element-returns-clause-answer : goal.element-returns-clause-answer
 element-returns-clause-answer g t c w told =
-    runs_as (element-step c.args.levels (whole g.H.Host.given) c.args.index.now (state_of c.args.self.now w) (search (rules, c.if-levels-eq0.false)))
+    runs_as (element-step c.args.levels (whole g.H.Host.given) c.args.name.now c.args.index.now (state_of c.args.self.now w) (search (rules, c.if-levels-eq0.false)))
     (bind_ok _ (c.in_ok-substitute.ensures.answer w told)
-    (λ text v e shown. raise_runs c.substitute.new.self e c.not_built.ensures.same c.not_built.ensures.raises))
+    (λ text v e shown. runs_as
+    (ap (λ a. element_value a (last_of c.substitute.new.self.values.store.stack) (state_of c.substitute.new.self v)) c.bytes.ensures.text
+    ∙ ap (λ t. element_value c.args.name.now t (state_of c.substitute.new.self v)) shown)
+    (c.put_element.ensures.answer (outer (g.O.Outside.told c.substitute.new.out) (g.O.Outside.torn c.substitute.new.out)) v e)))
+
+pub element-returns-clause-stack : goal.element-returns-clause-stack
+element-returns-clause-stack g t c =
+    let P : List Text → Type 0 = λ s. PushesOne s c.put_element.result c.put_element.new.self.values.store.stack in
+    subst P (over-popped c.args.self.now.values.store.stack c.substitute.new.self.values.store.stack c.in_ok-substitute.ensures.stack) c.put_element.ensures.stack
+
+pub element-returns-clause-cause : goal.element-returns-clause-cause
+element-returns-clause-cause g t c = calm_caused c.put_element.result _ _ c.put_element.ensures.calm c.in_ok-substitute.ensures.cause
 
 pub script_at-returns-in_err-tree-clause-answer : goal.script_at-returns-in_err-tree-clause-answer
 script_at-returns-in_err-tree-clause-answer g t c w told = memory_runs (search rules) told refl

@@ -1,9 +1,12 @@
-use Rattle.std.proofs.Common.{◌∙◌, ap, None}
-use Rattle.tclv_vars.specs.declared.places.Place.TheVariants as place
-use Rattle.tclv_vars.specs.Table.{read}
+use Rattle.std.proofs.Common.{◌∙◌, ap, sym}
+use Rattle.tclv_reply.specs.Names.{naming, shape_of}
+use Rattle.tclv_engine.specs.Names.{read_named}
 use Rattle.tclv_engine.proofs.NameLemmas.{bytes-are}
 use Rattle.tclv_engine.proofs.values.Values.cell_at.Goals as goal
 
+pub cell_named-requires-clause-shape : goal.cell_named-requires-clause-shape
+cell_named-requires-clause-shape c = c.requires.shape ∙ ap shape_of (sym (bytes-are _ _ c.lend.ensures.utf8 c.lend.ensures.text))
+
 pub returns-clause-answer : goal.returns-clause-answer
 returns-clause-answer c =
-    c.cell_named.ensures.answer ∙ ap (λ b. read c.args.self.now.vars place.Frame b None) (bytes-are _ _ c.lend.ensures.utf8 c.lend.ensures.text)
+    c.cell_named.ensures.answer ∙ ap (λ b. read_named c.args.self.now.vars (naming b)) (bytes-are _ _ c.lend.ensures.utf8 c.lend.ensures.text)

@@ -1,6 +1,0 @@
-use Rattle.std.proofs.Common.{◌≡◌, drop}
-use Rattle.tclv_engine.specs.Names.{is_qualified}
-use Rattle.tclv_engine.proofs.names.is_qualified.Given as goal
-
-abbrev pub invariant-loop-i : goal.invariant-loop-i
-invariant-loop-i l = is_qualified l.name ≡ is_qualified (drop l.i l.name)
