@@ -4,3 +4,9 @@ pub mod EachLemmas
 pub mod ScriptLemmas
 pub mod SwitchLemmas
 pub mod IfLemmas
+pub mod CodeNumberLemmas
+pub mod HandingLemmas
+pub mod ErrorLemmas
+pub mod CatchLemmas
+pub mod ReturnLemmas
+pub mod TryLemmas

@@ -5,3 +5,17 @@ pub mod SwitchRows
 pub mod IfRows
 pub mod IfSteps
 pub mod ControlRows
+pub mod Outcomes
+pub mod OutcomeSteps
+pub mod HandingOn
+pub mod HandingSteps
+pub mod ErrorRows
+pub mod ErrorSteps
+pub mod ReturnRows
+pub mod ReturnSteps
+pub mod CatchRows
+pub mod CatchSteps
+pub mod TryRows
+pub mod TrySteps
+pub mod Finishing
+pub mod CodeRows

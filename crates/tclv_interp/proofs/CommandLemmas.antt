@@ -4,7 +4,8 @@ use Rattle.std.proofs.lemmas.List.{drop_more}
 use Rattle.tclv_value.specs.Stacks.{top}
 use Rattle.tclv_engine.specs.State.{Text, own_in}
 use Rattle.tclv_engine.specs.Results.{bind}
-use Rattle.tclv_engine.specs.Names.{bytes_of, is_qualified}
+use Rattle.tclv_reply.specs.Names.{is_qualified}
+use Rattle.tclv_engine.specs.Names.{bytes_of}
 use Rattle.tclv_engine.specs.Variables.{not_built}
 use Rattle.std.specs.FinMap.{get}
 use Rattle.tclv_interp.specs.declared.builtins.CommandTarget.{CommandTarget}

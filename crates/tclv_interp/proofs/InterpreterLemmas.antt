@@ -145,3 +145,7 @@ pub shows-left : (stack : List Text) (q : Result Code Stop) (text : Text) (l : L
     IfOk q (λ c. c ≡ code_of l) → OnOk q (text ≡ last_of stack) → OnOk q (made ≡ Ok options) → IfErr q (λ s. s ≡ stop.Memory) → IfOk made (λ o. o ≡ options_of l) → Shows (Err (end.Left l)) stack q text options
 shows-left stack (Ok c) text l options made h k m n o = (h, k, subst (λ r. IfOk r (λ x. x ≡ options_of l)) m o)
 shows-left stack (Err s) text l options made h k m n o = n
+
+pub if_ok-as : {T E : Type 0} (r : Result T E) (x y : T) → IfOk r (λ v. v ≡ x) → x ≡ y → IfOk r (λ v. v ≡ y)
+if_ok-as (Ok v) x y h e = h ∙ e
+if_ok-as (Err f) x y h e = h

@@ -6,13 +6,15 @@ use Rattle.tclv_model.specs.declared.messages.MessageId.TheVariants as message
 use Rattle.tclv_model.specs.declared.error_codes.ErrorCode.TheVariants.{UnknownCommand}
 use Rattle.tclv_plain.specs.declared.plain_commands.PlainCommand.TheVariants as plain
 use Rattle.tclv_control.specs.declared.control.ControlCommand.TheVariants as control
+use Rattle.tclv_control.specs.declared.codes.CodeCommand.TheVariants as ending
 use Rattle.tclv_names.specs.Keyed.{Named}
 use Rattle.tclv_interp.specs.declared.builtins.CommandTarget.{CommandTarget}
 use Rattle.tclv_interp.specs.declared.builtins.CommandTarget.TheVariants as target
 use Rattle.tclv_interp.specs.declared.builtins.Tables.{Tables}
 use Rattle.tclv_engine.specs.State.{Text, State, own_in}
 use Rattle.tclv_engine.specs.Results.{Res, done, raise}
-use Rattle.tclv_engine.specs.Names.{bytes_of, is_qualified}
+use Rattle.tclv_reply.specs.Names.{is_qualified}
+use Rattle.tclv_engine.specs.Names.{bytes_of}
 use Rattle.tclv_engine.specs.Variables.{not_built}
 use Rattle.tclv_plain.specs.declared.data_commands.DataCommand.TheVariants as command
 use Rattle.tclv_plain.specs.declared.cell_commands.CellCommand.TheVariants as cell
@@ -22,8 +24,10 @@ unfoldable pub built_in : List (List ℕ × CommandTarget)
 built_in =
     (codes "append", target.Plain plain.Append) ∷
     (codes "break", target.Plain plain.Break) ∷
+    (codes "catch", target.Code ending.Catch) ∷
     (codes "concat", target.Plain (plain.Data command.Concat)) ∷
     (codes "continue", target.Plain plain.Continue) ∷
+    (codes "error", target.Code ending.Error) ∷
     (codes "eval", target.Control control.Eval) ∷
     (codes "exit", target.Plain plain.Exit) ∷
     (codes "expr", target.Control control.Expr) ∷
@@ -50,9 +54,12 @@ built_in =
     (codes "lset", target.Plain (plain.Cell cell.Lset)) ∷
     (codes "lsort", target.Plain (plain.Data command.Lsort)) ∷
     (codes "puts", target.Plain plain.Puts) ∷
+    (codes "return", target.Code ending.Return) ∷
     (codes "set", target.Plain plain.Set) ∷
     (codes "split", target.Plain (plain.Data command.Split)) ∷
     (codes "switch", target.Control control.Switch) ∷
+    (codes "throw", target.Code ending.Throw) ∷
+    (codes "try", target.Code ending.Try) ∷
     (codes "while", target.Control control.While) ∷
     []
 

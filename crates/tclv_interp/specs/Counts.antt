@@ -2,7 +2,7 @@
 use Rattle.std.specs.Prelude.{◌≡◌, ℕ, ◌≤◌}
 use Rattle.tclv_engine.specs.Plans.{Wanted}
 use Rattle.tclv_engine.specs.Evaluation.{perform}
-use Rattle.tclv_interp.specs.declared.commands.Behind.{Behind}
+use Rattle.tclv_control.specs.declared.behind.Behind.{Behind}
 use Rattle.tclv_interp.specs.Commands.{Evaluator, State, shell}
 
 -- Three scripts one behind another are enough for what a command wants.

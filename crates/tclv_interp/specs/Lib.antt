@@ -1,5 +1,4 @@
 pub mod Builtins
 pub mod Commands
-pub mod CommandSteps
 pub mod Counts
 pub mod Interpreters

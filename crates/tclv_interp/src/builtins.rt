@@ -6,11 +6,12 @@ ghost use Rattle.tclv_interp.specs.Builtins as spec;
 ghost use Rattle.tclv_engine.specs.Answers.{Answers, KeepsStack, IsCalm, returned};
 
 use std::alloc::Global;
-use tclv_control::ControlCommand;
-use tclv_engine::{End, Machine, is_qualified};
+use tclv_control::{CodeCommand, ControlCommand};
+use tclv_engine::{End, Machine};
 use tclv_model::{ErrorCode, MessageId};
 use tclv_names::Names;
 use tclv_plain::{CellCommand, DataCommand, PlainCommand};
+use tclv_reply::is_qualified;
 use tclv_text::NoMemory;
 use tclv_value::At;
 
@@ -21,6 +22,8 @@ pub enum CommandTarget {
     Plain(PlainCommand),
     /// One that wants scripts or expressions evaluated.
     Control(ControlCommand),
+    /// One that ends with a code, or sees how a script ended.
+    Code(CodeCommand),
 }
 
 /// The tables that the commands keep of their own.
@@ -31,14 +34,16 @@ pub struct Tables {
 }
 
 /// The commands that are built in, by their names.
-const BUILTINS: [(&[u8], CommandTarget); 34] = [
+const BUILTINS: [(&[u8], CommandTarget); 39] = [
     (b"append", CommandTarget::Plain(PlainCommand::Append)),
     (b"break", CommandTarget::Plain(PlainCommand::Break)),
+    (b"catch", CommandTarget::Code(CodeCommand::Catch)),
     (
         b"concat",
         CommandTarget::Plain(PlainCommand::Data(DataCommand::Concat)),
     ),
     (b"continue", CommandTarget::Plain(PlainCommand::Continue)),
+    (b"error", CommandTarget::Code(CodeCommand::Error)),
     (b"eval", CommandTarget::Control(ControlCommand::Eval)),
     (b"exit", CommandTarget::Plain(PlainCommand::Exit)),
     (b"expr", CommandTarget::Control(ControlCommand::Expr)),
@@ -113,12 +118,15 @@ const BUILTINS: [(&[u8], CommandTarget); 34] = [
         CommandTarget::Plain(PlainCommand::Data(DataCommand::Lsort)),
     ),
     (b"puts", CommandTarget::Plain(PlainCommand::Puts)),
+    (b"return", CommandTarget::Code(CodeCommand::Return)),
     (b"set", CommandTarget::Plain(PlainCommand::Set)),
     (
         b"split",
         CommandTarget::Plain(PlainCommand::Data(DataCommand::Split)),
     ),
     (b"switch", CommandTarget::Control(ControlCommand::Switch)),
+    (b"throw", CommandTarget::Code(CodeCommand::Throw)),
+    (b"try", CommandTarget::Code(CodeCommand::Try)),
     (b"while", CommandTarget::Control(ControlCommand::While)),
 ];
 
@@ -154,7 +162,8 @@ impl Tables {
 pub fn resolve(machine: &mut Machine<Tables>, n: usize) -> Result<CommandTarget, End>
     requires words { n ≤ length machine.old.values.store.stack }
     requires some { 0 < n }
-    ensures answer { Answers (spec.resolve (slice_index_or machine.old.values.store.stack (length machine.old.values.store.stack - n) [])) returned machine.old result machine.new }
+    ensures answer { Answers (spec.resolve (slice_index_or machine.old.values.store.stack
+        (length machine.old.values.store.stack - n) [])) returned machine.old result machine.new }
     ensures stack { KeepsStack machine.old.values.store.stack result machine.new.values.store.stack }
     ensures calm { IsCalm result }
     ensures units { machine.new.units ≡ machine.old.units }

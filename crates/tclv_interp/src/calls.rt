@@ -1,103 +1,29 @@
 // The calls of an interpreter.
 ghost use Rattle.std.specs.Prelude.{◌≡◌, ◌≢◌, ◌↔◌, ◌<◌, [], ℕ, false, true, length, slice_index_or, IfOk, IfErr, OnOk, OnErr, Ok, Err};
 ghost use Rattle.std.specs.Str.{chars};
-ghost use Rattle.tclv_text.specs.Numbers.{whole_text};
 ghost use Rattle.tclv_text.specs.Texts.{IsText};
 ghost use Rattle.tclv_io.specs.World.{World};
 ghost use Rattle.tclv_value.specs.View.{HasPlace};
 ghost use Rattle.tclv_vars.specs.Clearing.{IsOutermost};
-ghost use Rattle.tclv_engine.specs.Answers as answers;
 ghost use Rattle.tclv_engine.specs.Answers.{outer, AtWorld, HasResult, SameState, last_of};
-ghost use Rattle.tclv_engine.specs.Results.{option, code_text, code_options, carried, error_options};
-ghost use Rattle.tclv_engine.specs.Variables.{assign, is_unbuilt};
+ghost use Rattle.tclv_reply.specs.Names.{is_plain};
+ghost use Rattle.tclv_engine.specs.Variables.{assign};
 ghost use Rattle.tclv_interp.specs.Interpreters.{state_over, blank, HasNoArrays, variables_of, writes_of, evaluation, as_script, script_at, result_of, options_at, is_stopped, Evaluates, Shows, StopCause, StopsAt};
 
 use crate::builtins::Tables;
 use crate::commands::Commands;
 use crate::interpreters::{Interp, Stop};
 use std::alloc::Global;
-use tclv_engine::{Carried, End, Leaving, Machine, Values};
+use tclv_control::{carried_options, code_of, options_of};
+use tclv_engine::{Carried, End, Machine, Values};
 use tclv_io::Outside;
-use tclv_model::{Code, Options, Pair};
-use tclv_text::{NoMemory, Stats, Text, whole_text};
+use tclv_model::{Code, Options};
+use tclv_text::{NoMemory, Stats};
 use tclv_value::At;
+use tclv_vars::VarFault;
 
 // Where the result stands.
 const RESULT: At = At::Stack(0);
-
-// An option with its name and its value.
-fn option_of(alloc: Global, key: &str, value: &[u8]) -> Result<Pair, NoMemory>
-    requires { IsText value.now }
-    ensures { IfOk result (λ pair. pair ≡ option (chars key.now) (chars value.now)) }
-{
-    let key = Vec::from_slice(alloc, key.as_bytes())?;
-    let value = Vec::from_slice(alloc, value)?;
-    Ok(Pair {
-        key: Text::new(key),
-        value: Text::new(value),
-    })
-}
-
-// The number of a code, as a text.
-fn number_text(alloc: Global, code: Code) -> Result<Text, NoMemory>
-    ensures { IfOk result (λ text. text ≡ code_text code) }
-{
-    let mut text = Vec::new(alloc);
-    whole_text(i64::from(code.number()), &mut text)?;
-    Ok(Text::new(text))
-}
-
-// The options of a code, which has none of its own.
-fn code_options(alloc: Global, code: Code) -> Result<Options, NoMemory>
-    ensures { IfOk result (λ options. options ≡ code_options (code_text code)) }
-{
-    let number = number_text(alloc, code)?;
-    let mut options = Options::new(alloc);
-    options.push(option_of(alloc, "-code", number.bytes())?)?;
-    options.push(option_of(alloc, "-level", b"0")?)?;
-    Ok(options)
-}
-
-// The options that a code carries.
-fn carried_options(alloc: Global, code: Code, kept: Carried) -> Result<Options, NoMemory>
-    ensures { IfOk result (λ options. options ≡ carried code kept) }
-{
-    match kept {
-        Carried::Plain => code_options(alloc, code),
-        Carried::Kept(options) => Ok(options),
-    }
-}
-
-// The options of an error.
-fn error_options(alloc: Global, errorcode: &Text) -> Result<Options, NoMemory>
-    ensures { IfOk result (λ options. options ≡ error_options errorcode.now) }
-{
-    let mut options = Options::new(alloc);
-    options.push(option_of(alloc, "-code", b"1")?)?;
-    options.push(option_of(alloc, "-level", b"0")?)?;
-    options.push(option_of(alloc, "-errorcode", errorcode.bytes())?)?;
-    Ok(options)
-}
-
-// The code of what isn't ok.
-fn code_of(leaving: &Leaving) -> Code
-    ensures { result ≡ answers.code_of leaving.now }
-{
-    match leaving {
-        Leaving::Error(_) => Code::Error,
-        Leaving::Other(code, _) => *code,
-    }
-}
-
-// Its options.
-fn options_of(alloc: Global, leaving: Leaving) -> Result<Options, NoMemory>
-    ensures { IfOk result (λ options. options ≡ answers.options_of leaving) }
-{
-    match leaving {
-        Leaving::Error(errorcode) => error_options(alloc, &errorcode),
-        Leaving::Other(code, kept) => carried_options(alloc, code, kept),
-    }
-}
 
 // Lets the text of the result's place go.
 fn forget_result(machine: &mut Machine<Tables>) -> Result<(), NoMemory>
@@ -158,7 +84,7 @@ impl Interp {
     pub fn set_global(&mut self, name: &[u8], value: &[u8]) -> Result<(), NoMemory>
         requires name { IsText name.now }
         requires value { IsText value.now }
-        requires plain { is_unbuilt name.now ≡ false }
+        requires plain { is_plain name.now ≡ true }
         requires arrays { HasNoArrays (variables_of self.old) }
         ensures arrays { HasNoArrays (variables_of self.new) }
         ensures state { OnOk result ((w : World) → state_over self.new w ≡ (assign (chars name.now) (chars value.now) (state_over self.old w)).after) }
@@ -168,7 +94,11 @@ impl Interp {
         ensures result { result_of self.new ≡ result_of self.old }
         ensures options { options_at self.new ≡ options_at self.old }
     {
-        self.machine.values.set_named(name, value)
+        match self.machine.values.set_named(name, value) {
+            Ok(()) => Ok(()),
+            Err(VarFault::NoMemory) => Err(NoMemory),
+            Err(_) => unreachable!(),
+        }
     }
 
     /// Puts a script, given as UTF-8, where `eval` finds it, and gives its place. After `NoMemory`
@@ -197,7 +127,10 @@ impl Interp {
     /// then on `Stopped`, without doing anything. (Tcl: eval(n), tclsh(1).)
     pub fn eval<O: Outside>(&mut self, at: At, out: &mut O) -> Result<Code, Stop>
         requires { is_stopped self.old ≡ false → HasPlace self.old.machine.values.store at }
-        ensures answer { is_stopped self.old ≡ false → AtWorld (outer (O.told out.old) (O.torn out.old)) (λ w. Evaluates (evaluation (script_at self.old at) (state_over self.old w)) w (O.torn out.old) (writes_of self.old) result (result_of self.new) (options_at self.new) self.new.machine (outer (O.told out.new) (O.torn out.new))) }
+        ensures answer { is_stopped self.old ≡ false
+            → AtWorld (outer (O.told out.old) (O.torn out.old))
+            (λ w. Evaluates (evaluation (script_at self.old at) (state_over self.old w)) w (O.torn out.old) (writes_of self.old) result
+            (result_of self.new) (options_at self.new) self.new.machine (outer (O.told out.new) (O.torn out.new))) }
         ensures cause { StopCause (O.faults out.old) (O.faults out.new) result }
         ensures frames { is_stopped self.old ≡ false → IsOutermost (variables_of self.new) }
         ensures stops { StopsAt result self.new }
@@ -220,7 +153,9 @@ impl Interp {
         requires place { HasPlace self.old.machine.values.store at }
         requires some { 0 < length self.old.machine.values.store.stack }
         requires stopped { is_stopped self.old ≡ true }
-        ensures answer { AtWorld (outer (O.told out.old) (O.torn out.old)) (λ w. Evaluates (as_script (script_at self.old at) (state_over self.old w)) w (O.torn out.old) (writes_of self.old) result (result_of self.new) (options_at self.new) self.new.machine (outer (O.told out.new) (O.torn out.new))) }
+        ensures answer { AtWorld (outer (O.told out.old) (O.torn out.old))
+            (λ w. Evaluates (as_script (script_at self.old at) (state_over self.old w)) w (O.torn out.old) (writes_of self.old) result
+            (result_of self.new) (options_at self.new) self.new.machine (outer (O.told out.new) (O.torn out.new))) }
         ensures cause { StopCause (O.faults out.old) (O.faults out.new) result }
         ensures some { OnOk result (0 < length self.new.machine.values.store.stack) }
         ensures stops { StopsAt result self.new }

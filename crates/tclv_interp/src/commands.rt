@@ -3,22 +3,14 @@ ghost use Rattle.std.specs.Prelude.{◌≡◌, ◌<◌, ◌≤◌, length, true}
 ghost use Rattle.tclv_value.specs.Stacks.{top, under};
 ghost use Rattle.tclv_engine.specs.Answers.{AnswersOver, Caused, Leaves, last_of, outer};
 ghost use Rattle.tclv_engine.specs.Plans.{PlanOver, as_plan, concluded};
+ghost use Rattle.tclv_control.specs.Finishing.{finish};
 ghost use Rattle.tclv_interp.specs.Commands as spec;
-ghost use Rattle.tclv_interp.specs.CommandSteps as steps;
 
 use crate::builtins::{CommandTarget, Tables, resolve};
-use tclv_control::plan_control;
-use tclv_engine::{Carried, End, Ended, Host, Leaving, Machine, Plan};
+use tclv_control::{Behind, finish_behind, plan_code, plan_control};
+use tclv_engine::{Carried, End, Ended, Host, Machine, Plan};
 use tclv_io::Outside;
-use tclv_model::Code;
 use tclv_plain::{PlainCommand, run_plain};
-
-/// What is done behind a script.
-#[derive(Clone, Copy, Debug, PartialEq, Eq)]
-pub enum Behind {
-    /// Its outcome is the command's.
-    HandOn,
-}
 
 /// The commands of the shell.
 pub struct Commands {}
@@ -32,7 +24,8 @@ fn plan_plain<O: Outside>(
 ) -> Result<Plan<Behind>, End>
     requires words { n ≤ length machine.old.values.store.stack }
     requires some { 0 < n }
-    ensures answer { AnswersOver (spec.wanted_plain command (top n machine.old.values.store.stack)) as_plan machine.old (outer (O.told out.old) (O.torn out.old)) result machine.new (outer (O.told out.new) (O.torn out.new)) }
+    ensures answer { AnswersOver (spec.wanted_plain command (top n machine.old.values.store.stack)) as_plan machine.old
+        (outer (O.told out.old) (O.torn out.old)) result machine.new (outer (O.told out.new) (O.torn out.new)) }
     ensures stack { Leaves (PlanOver (under n machine.old.values.store.stack)) (under n machine.old.values.store.stack) result machine.new.values.store.stack }
     ensures cause { Caused (O.faults out.old) (O.faults out.new) result }
     ensures units { machine.new.units ≡ machine.old.units }
@@ -51,7 +44,8 @@ fn plan_target<O: Outside>(
 ) -> Result<Plan<Behind>, End>
     requires words { n ≤ length machine.old.values.store.stack }
     requires some { 0 < n }
-    ensures answer { AnswersOver (spec.wanted target (top n machine.old.values.store.stack)) as_plan machine.old (outer (O.told out.old) (O.torn out.old)) result machine.new (outer (O.told out.new) (O.torn out.new)) }
+    ensures answer { AnswersOver (spec.wanted target (top n machine.old.values.store.stack)) as_plan machine.old
+        (outer (O.told out.old) (O.torn out.old)) result machine.new (outer (O.told out.new) (O.torn out.new)) }
     ensures stack { Leaves (PlanOver (under n machine.old.values.store.stack)) (under n machine.old.values.store.stack) result machine.new.values.store.stack }
     ensures cause { Caused (O.faults out.old) (O.faults out.new) result }
     ensures units { machine.new.units ≡ machine.old.units }
@@ -59,6 +53,7 @@ fn plan_target<O: Outside>(
     match target {
         CommandTarget::Plain(command) => plan_plain(machine, out, command, n),
         CommandTarget::Control(command) => plan_control(machine, command, n, Behind::HandOn),
+        CommandTarget::Code(command) => plan_code(machine, command, n),
     }
 }
 
@@ -71,7 +66,8 @@ fn plan<O: Outside>(
 ) -> Result<Plan<Behind>, End>
     requires words { n ≤ length machine.old.values.store.stack }
     requires some { 0 < n }
-    ensures answer { AnswersOver (spec.plan_of (top n machine.old.values.store.stack)) as_plan machine.old (outer (O.told out.old) (O.torn out.old)) result machine.new (outer (O.told out.new) (O.torn out.new)) }
+    ensures answer { AnswersOver (spec.plan_of (top n machine.old.values.store.stack)) as_plan machine.old
+        (outer (O.told out.old) (O.torn out.old)) result machine.new (outer (O.told out.new) (O.torn out.new)) }
     ensures stack { Leaves (PlanOver (under n machine.old.values.store.stack)) (under n machine.old.values.store.stack) result machine.new.values.store.stack }
     ensures cause { Caused (O.faults out.old) (O.faults out.new) result }
     ensures units { machine.new.units ≡ machine.old.units }
@@ -80,19 +76,8 @@ fn plan<O: Outside>(
     plan_target(machine, out, target, n)
 }
 
-// Hands on how a script ended, as the command's outcome.
-fn hand_on(ended: Ended) -> Result<Plan<Behind>, End>
-    ensures { result ≡ steps.handed_on ended }
-{
-    match ended {
-        Ended::Ok(kept) => Ok(Plan::Finished(kept)),
-        Ended::Left(Leaving::Error(errorcode)) => Err(End::Left(Leaving::Error(errorcode))),
-        Ended::Left(Leaving::Other(Code::Ok, kept)) => Ok(Plan::Finished(kept)),
-        Ended::Left(Leaving::Other(code, kept)) => Err(End::Left(Leaving::Other(code, kept))),
-    }
-}
-
 // What is done behind a script that ended so, whose result is the top text of the stack.
+#[tactic(auto, using(tclv_engine::proofs::Binds::calm_caused))]
 fn finish<O: Outside>(
     machine: &mut Machine<Tables>,
     out: &mut O,
@@ -100,16 +85,14 @@ fn finish<O: Outside>(
     ended: Ended,
 ) -> Result<Plan<Behind>, End>
     requires { 0 < length machine.old.values.store.stack }
-    ensures answer { AnswersOver (spec.finish behind (concluded ended (last_of machine.old.values.store.stack))) as_plan machine.old (outer (O.told out.old) (O.torn out.old)) result machine.new (outer (O.told out.new) (O.torn out.new)) }
+    ensures answer { AnswersOver (finish behind (concluded ended (last_of machine.old.values.store.stack))) as_plan machine.old
+        (outer (O.told out.old) (O.torn out.old)) result machine.new (outer (O.told out.new) (O.torn out.new)) }
     ensures stack { Leaves (PlanOver (under 1 machine.old.values.store.stack)) (under 1 machine.old.values.store.stack) result machine.new.values.store.stack }
     ensures cause { Caused (O.faults out.old) (O.faults out.new) result }
     ensures units { machine.new.units ≡ machine.old.units }
 {
-    let _machine = machine;
     let _out = out;
-    match behind {
-        Behind::HandOn => hand_on(ended),
-    }
+    finish_behind(machine, behind, ended)
 }
 
 impl Host for Commands {
@@ -117,7 +100,7 @@ impl Host for Commands {
 
     type Behind = Behind;
 
-    ghost given = { record { plan = spec.plan_of; finish = spec.finish } };
+    ghost given = { record { plan = spec.plan_of; finish = finish } };
 
     ghost fits = { λ own told. true };
 

@@ -5,7 +5,7 @@ ghost use Rattle.tclv_engine.specs.Plans.{Wanted};
 ghost use Rattle.tclv_interp.specs.Builtins.{StandsForBuiltin};
 ghost use Rattle.tclv_interp.specs.Commands.{State, Evaluator};
 ghost use Rattle.tclv_interp.specs.Counts.{ThreeAreEnough};
-ghost use Rattle.tclv_interp.specs.declared.commands.Behind.{Behind};
+ghost use Rattle.tclv_control.specs.declared.behind.Behind.{Behind};
 
 /// The table of a new interpreter has exactly the commands that are built in.
 pub fn built_in_alone()

@@ -35,7 +35,8 @@ pub fn message_text(alloc: Global, kind: MessageId, part: &[u8]) -> Result<Vec<u
 /// Writes a message and a newline on standard error, and reports that a run ended so.
 pub fn say_text<O: Outside>(mut text: Vec<u8>, end: End, out: &mut O) -> Report
     requires { IsComplete end }
-    ensures follows { Follows (λ w. with_message [] 0 text.items end) (O.told out.old) (seen (O.told out.old) (O.faults out.old) (O.torn out.old)) (seen (O.told out.new) (O.faults out.new) (O.torn out.new)) result }
+    ensures follows { Follows (λ w. with_message [] 0 text.items end) (O.told out.old) (seen (O.told out.old) (O.faults out.old) (O.torn out.old))
+        (seen (O.told out.new) (O.faults out.new) (O.torn out.new)) result }
     ensures ends { (result.end ≡ end) ⊎ IsCutShort result.end }
     ensures writes { result.writes ≤ 1 }
 {
@@ -57,7 +58,8 @@ pub fn say_text<O: Outside>(mut text: Vec<u8>, end: End, out: &mut O) -> Report
 /// be counted, memory ran out.
 pub fn say_behind<O: Outside>(done: u64, text: Vec<u8>, end: End, out: &mut O) -> Report
     requires { IsComplete end }
-    ensures follows { FollowsBehind done (λ w. with_message [] 0 text.items end) (O.told out.old) (seen (O.told out.old) (O.faults out.old) (O.torn out.old)) (seen (O.told out.new) (O.faults out.new) (O.torn out.new)) result }
+    ensures follows { FollowsBehind done (λ w. with_message [] 0 text.items end) (O.told out.old)
+        (seen (O.told out.old) (O.faults out.old) (O.torn out.old)) (seen (O.told out.new) (O.faults out.new) (O.torn out.new)) result }
     ensures ends { (result.end ≡ end) ⊎ IsCutShort result.end }
 {
     if done == u64::MAX {
@@ -73,7 +75,8 @@ pub fn say_behind<O: Outside>(done: u64, text: Vec<u8>, end: End, out: &mut O) -
 /// Ends a run with a message.
 pub fn say<O: Outside>(alloc: Global, kind: MessageId, part: &[u8], end: End, out: &mut O) -> Report
     requires { IsComplete end }
-    ensures follows { Follows (λ w. message_only kind part.now end) (O.told out.old) (seen (O.told out.old) (O.faults out.old) (O.torn out.old)) (seen (O.told out.new) (O.faults out.new) (O.torn out.new)) result }
+    ensures follows { Follows (λ w. message_only kind part.now end) (O.told out.old) (seen (O.told out.old) (O.faults out.old) (O.torn out.old))
+        (seen (O.told out.new) (O.faults out.new) (O.torn out.new)) result }
     ensures ends { (result.end ≡ end) ⊎ IsCutShort result.end }
 {
     match message_text(alloc, kind, part) {

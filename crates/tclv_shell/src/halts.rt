@@ -41,7 +41,8 @@ pub fn cut_short(halt: Halt, writes: u64) -> Report
 /// Writes a piece on standard output or standard error.
 pub fn write_piece<O: Outside>(to: u64, piece: &[u8], out: &mut O) -> Result<(), Halt>
     requires { (to ≡ 1) ⊎ (to ≡ 2) }
-    ensures written { Written (standard to) piece.now result (seen (O.told out.old) (O.faults out.old) (O.torn out.old)) (seen (O.told out.new) (O.faults out.new) (O.torn out.new)) }
+    ensures written { Written (standard to) piece.now result (seen (O.told out.old) (O.faults out.old) (O.torn out.old))
+        (seen (O.told out.new) (O.faults out.new) (O.torn out.new)) }
     ensures cause { HaltCause (seen (O.told out.old) (O.faults out.old) (O.torn out.old)) (seen (O.told out.new) (O.faults out.new) (O.torn out.new)) result }
 {
     match out.write(to, piece) {

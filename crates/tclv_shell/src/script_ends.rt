@@ -38,7 +38,8 @@ pub fn end_file<O: Outside>(
     out: &mut O,
 ) -> Report
     requires { IsText text.now }
-    ensures follows { FollowsBehind done (λ w. at_file_end [] 0 (error_of_number number (chars text.now))) (O.told out.old) (seen (O.told out.old) (O.faults out.old) (O.torn out.old)) (seen (O.told out.new) (O.faults out.new) (O.torn out.new)) result }
+    ensures follows { FollowsBehind done (λ w. at_file_end [] 0 (error_of_number number (chars text.now))) (O.told out.old)
+        (seen (O.told out.old) (O.faults out.old) (O.torn out.old)) (seen (O.told out.new) (O.faults out.new) (O.torn out.new)) result }
     ensures ends { result.end ≢ End.Usage }
 {
     match file_error(alloc, number, text) {

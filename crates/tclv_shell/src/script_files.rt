@@ -47,7 +47,8 @@ fn read_all<O: Outside>(alloc: Global, file: u64, out: &mut O) -> Result<Vec<u8>
     requires is_open { WhereTold (O.told out.old) (λ w. IsTrue (can_read w file)) }
     ensures whole { WhereTold (O.told out.old) (λ w. IfOk result (λ bytes. IsWhole (left w file) bytes.items)) }
     ensures same { SeesSame (seen (O.told out.old) (O.faults out.old) (O.torn out.old)) (seen (O.told out.new) (O.faults out.new) (O.torn out.new)) }
-    ensures still_open { OnOk result (WhereTold (O.told out.old) (λ w. IsTrue (can_close w file) → WhereTold (O.told out.new) (λ v. IsTrue (can_close v file)))) }
+    ensures still_open { OnOk result (WhereTold (O.told out.old)
+        (λ w. IsTrue (can_close w file) → WhereTold (O.told out.new) (λ v. IsTrue (can_close v file)))) }
     ensures others { OnOk result (option_map (closed file) (O.told out.new) ≡ option_map (closed file) (O.told out.old)) }
     ensures cause { HaltCause (seen (O.told out.old) (O.faults out.old) (O.torn out.old)) (seen (O.told out.new) (O.faults out.new) (O.torn out.new)) result }
 {

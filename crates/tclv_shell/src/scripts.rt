@@ -54,7 +54,9 @@ fn prepared(alloc: Global, call: Invocation<'_>, script: &Text) -> Result<(Inter
 
 // Ends a run at the end of the script file, where the script ended with this code.
 fn end_script<O: Outside>(alloc: Global, code: Code, interp: &mut Interp, out: &mut O) -> Report
-    ensures follows { FollowsBehind (writes_of interp.old) (λ w. at_file_end [] 0 (file_error code (options_at interp.old) (result_of interp.old))) (O.told out.old) (seen (O.told out.old) (O.faults out.old) (O.torn out.old)) (seen (O.told out.new) (O.faults out.new) (O.torn out.new)) result }
+    ensures follows { FollowsBehind (writes_of interp.old) (λ w. at_file_end [] 0 (file_error code (options_at interp.old) (result_of interp.old)))
+        (O.told out.old) (seen (O.told out.old) (O.faults out.old) (O.torn out.old))
+        (seen (O.told out.new) (O.faults out.new) (O.torn out.new)) result }
     ensures ends { result.end ≢ End.Usage }
 {
     let done = interp.writes();
@@ -67,7 +69,8 @@ fn end_script<O: Outside>(alloc: Global, code: Code, interp: &mut Interp, out: &
 
 // Ends a run for which no unit was left.
 fn say_spent<O: Outside>(alloc: Global, done: u64, out: &mut O) -> Report
-    ensures follows { FollowsBehind done (λ w. with_message [] 0 (text_of MessageId.CommandLimitExceeded [] []) End.Budget) (O.told out.old) (seen (O.told out.old) (O.faults out.old) (O.torn out.old)) (seen (O.told out.new) (O.faults out.new) (O.torn out.new)) result }
+    ensures follows { FollowsBehind done (λ w. with_message [] 0 (text_of MessageId.CommandLimitExceeded [] []) End.Budget) (O.told out.old)
+        (seen (O.told out.old) (O.faults out.old) (O.torn out.old)) (seen (O.told out.new) (O.faults out.new) (O.torn out.new)) result }
     ensures ends { result.end ≢ End.Usage }
 {
     match message_text(alloc, MessageId::CommandLimitExceeded, &[]) {
@@ -81,7 +84,8 @@ fn finish<O: Outside>(alloc: Global, interp: &mut Interp, at: At, out: &mut O) -
     requires running { is_stopped interp.old ≡ false }
     requires fresh { writes_of interp.old ≡ 0 }
     requires place { HasPlace interp.old.machine.values.store at }
-    ensures follows { Follows (λ w. meaning_of_evaluation (script_at interp.old at) (state_over interp.old w)) (O.told out.old) (seen (O.told out.old) (O.faults out.old) (O.torn out.old)) (seen (O.told out.new) (O.faults out.new) (O.torn out.new)) result }
+    ensures follows { Follows (λ w. meaning_of_evaluation (script_at interp.old at) (state_over interp.old w)) (O.told out.old)
+        (seen (O.told out.old) (O.faults out.old) (O.torn out.old)) (seen (O.told out.new) (O.faults out.new) (O.torn out.new)) result }
     ensures ends { result.end ≢ End.Usage }
 {
     match interp.eval(at, out) {
@@ -96,7 +100,8 @@ fn finish<O: Outside>(alloc: Global, interp: &mut Interp, at: At, out: &mut O) -
 
 // Runs a script.
 fn run_script<O: Outside>(alloc: Global, call: Invocation<'_>, script: &Text, out: &mut O) -> Report
-    ensures follows { Follows (λ w. meaning_of_evaluation script.now (start (lent call.entry) w)) (O.told out.old) (seen (O.told out.old) (O.faults out.old) (O.torn out.old)) (seen (O.told out.new) (O.faults out.new) (O.torn out.new)) result }
+    ensures follows { Follows (λ w. meaning_of_evaluation script.now (start (lent call.entry) w)) (O.told out.old)
+        (seen (O.told out.old) (O.faults out.old) (O.torn out.old)) (seen (O.told out.new) (O.faults out.new) (O.torn out.new)) result }
     ensures ends { result.end ≢ End.Usage }
 {
     let Ok((mut interp, at)) = prepared(alloc, call, script) else {
@@ -111,7 +116,8 @@ fn run_script<O: Outside>(alloc: Global, call: Invocation<'_>, script: &Text, ou
 
 /// Runs the script of a file, given the file's text.
 pub fn run_text<O: Outside>(alloc: Global, call: Invocation<'_>, file: &Text, out: &mut O) -> Report
-    ensures follows { Follows (λ w. meaning_of_script (lent call.entry) file.now w) (O.told out.old) (seen (O.told out.old) (O.faults out.old) (O.torn out.old)) (seen (O.told out.new) (O.faults out.new) (O.torn out.new)) result }
+    ensures follows { Follows (λ w. meaning_of_script (lent call.entry) file.now w) (O.told out.old)
+        (seen (O.told out.old) (O.faults out.old) (O.torn out.old)) (seen (O.told out.new) (O.faults out.new) (O.torn out.new)) result }
     ensures ends { result.end ≢ End.Usage }
 {
     match script_text(alloc, file) {

@@ -20,7 +20,8 @@ use tclv_model::{End, MessageId, Report};
 
 // Ends a run whose script file can't be run.
 fn refuse<O: Outside>(alloc: Global, kind: MessageId, file: &str, out: &mut O) -> Report
-    ensures follows { Follows (λ w. message_only kind file.now End.Failed) (O.told out.old) (seen (O.told out.old) (O.faults out.old) (O.torn out.old)) (seen (O.told out.new) (O.faults out.new) (O.torn out.new)) result }
+    ensures follows { Follows (λ w. message_only kind file.now End.Failed) (O.told out.old)
+        (seen (O.told out.old) (O.faults out.old) (O.torn out.old)) (seen (O.told out.new) (O.faults out.new) (O.torn out.new)) result }
     ensures ends { result.end ≢ End.Usage }
 {
     say(alloc, kind, file.as_bytes(), End::Failed, out)
@@ -28,7 +29,8 @@ fn refuse<O: Outside>(alloc: Global, kind: MessageId, file: &str, out: &mut O) -
 
 // Opens, reads and runs the script file.
 fn run_file<O: Outside>(alloc: Global, call: Invocation<'_>, out: &mut O) -> Report
-    ensures follows { Follows (λ w. meaning_of_file (lent call.entry) (finite.get w.out.files call.entry.file.now) w) (O.told out.old) (seen (O.told out.old) (O.faults out.old) (O.torn out.old)) (seen (O.told out.new) (O.faults out.new) (O.torn out.new)) result }
+    ensures follows { Follows (λ w. meaning_of_file (lent call.entry) (finite.get w.out.files call.entry.file.now) w) (O.told out.old)
+        (seen (O.told out.old) (O.faults out.old) (O.torn out.old)) (seen (O.told out.new) (O.faults out.new) (O.torn out.new)) result }
     ensures ends { result.end ≢ End.Usage }
 {
     match load(alloc, call.file, out) {
@@ -61,11 +63,14 @@ fn run_file<O: Outside>(alloc: Global, call: Invocation<'_>, out: &mut O) -> Rep
 /// the run does all that its meaning says, or its end is `Memory`.
 pub fn run<O: Outside>(alloc: Global, words: &Vec<String>, out: &mut O) -> Report
     // Where the run comes to its own end, all is as its meaning says.
-    ensures all { WhereTold (O.told out.old) (λ w. IsComplete result.end → MeansAll (Run (map string_bytes words.now.items) w) w.out (shown (O.told out.new)) result) }
+    ensures all { WhereTold (O.told out.old) (λ w. IsComplete result.end
+        → MeansAll (Run (map string_bytes words.now.items) w) w.out (shown (O.told out.new)) result) }
 
     // Where it is cut short, the first events of its meaning happened, and of the next what a
     // failed write took of it.
-    ensures prefix { WhereTold (O.told out.old) (λ w. IsCutShort result.end → MeansPrefix (Run (map string_bytes words.now.items) w) w.out (shown (O.told out.new)) (O.torn out.old) (O.torn out.new) result) }
+    ensures prefix { WhereTold (O.told out.old)
+        (λ w. IsCutShort result.end → MeansPrefix (Run (map string_bytes words.now.items) w) w.out (shown (O.told out.new)) (O.torn out.old)
+        (O.torn out.new) result) }
 
     // Where no fault is counted and the count is below its last value, all is as the meaning says,
     // or memory ran out.

@@ -14,3 +14,8 @@ pub returns-in-Control-clause-answer : goal.returns-in-Control-clause-answer
 returns-in-Control-clause-answer g c w told =
     runs_as (ap (λ b. wanted b (top c.args.n c.args.machine.now.values.store.stack) (state_of c.args.machine.now w)) (sym c.in-Control.is))
     (c.plan_control.ensures.answer (outer (g.O.Outside.told c.args.out.now) (g.O.Outside.torn c.args.out.now)) w told)
+
+pub returns-in-Code-clause-answer : goal.returns-in-Code-clause-answer
+returns-in-Code-clause-answer g c w told =
+    runs_as (ap (λ b. wanted b (top c.args.n c.args.machine.now.values.store.stack) (state_of c.args.machine.now w)) (sym c.in-Code.is))
+    (c.plan_code.ensures.answer (outer (g.O.Outside.told c.args.out.now) (g.O.Outside.torn c.args.out.now)) w told)

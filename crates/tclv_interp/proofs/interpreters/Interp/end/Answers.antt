@@ -1,8 +1,7 @@
 use Rattle.std.proofs.Common.{rules, ◌≡◌, Err, sym, subst}
 use Rattle.tclv_interp.proofs.interpreters.Interp.end.Goals as goal
 use Rattle.tclv_interp.specs.Interpreters.{Shows, result_of, options_at}
-use Rattle.tclv_interp.proofs.InterpreterLemmas.{shows-ok, shows-left}
-use Rattle.tclv_interp.proofs.CodeNumberLemmas.{if_ok-as}
+use Rattle.tclv_interp.proofs.InterpreterLemmas.{shows-ok, shows-left, if_ok-as}
 use Rattle.tclv_engine.specs.declared.endings.End.TheVariants as end
 
 pub returns-in-Ok-clause-shows : goal.returns-in-Ok-clause-shows
