@@ -9,8 +9,10 @@ use Rattle.tclv_engine.specs.State.{Text, State}
 use Rattle.tclv_engine.specs.Results.{Res, Outcome, plain}
 use Rattle.tclv_engine.specs.Words.{Evaluator, expanded, word, words}
 use Rattle.tclv_engine.specs.EachLoops.{result_of}
-use Rattle.tclv_engine.specs.Plans.{Lead, Script as ScriptLead, Refused, Nothing, Alternative, Wanted, Finished, Run, Value, Choice, Tested, Started, Each}
-use Rattle.tclv_engine.specs.Evaluation.{Given, steady, concluding, text, value_result, lead, choose, perform_by, around, call, command, end_of, sequence, back_to, nested, evaluate, paid_call, evaluating, none_left, evaluator, whole_script, whole_words, whole}
+use Rattle.tclv_value.specs.Procedures.{Procedure}
+use Rattle.tclv_engine.specs.Frames.{entered, back_from, framed, level_current}
+use Rattle.tclv_engine.specs.Plans.{Lead, Script as ScriptLead, Refused, Nothing, Alternative, Inner, Here, Body, There, Wanted, Finished, Run, Called, AtLevel, Value, Choice, Tested, Started, Each}
+use Rattle.tclv_engine.specs.Evaluation.{Given, steady, concluding, text, value_result, lead, choose, body_inside, inner, perform_by, around, call, command, end_of, sequence, back_to, nested, evaluate, paid_call, evaluating, none_left, evaluator, whole_script, whole_words, whole}
 use Rattle.tclv_engine.specs.Bounds.{IsWhole, BoundsAgree, IsWholeOfWords, BoundsAgreeOnWords}
 use Rattle.tclv_engine.proofs.SameLemmas.{Same, Agree, EvaluatorsAgree, with_itself, if_same, bind_same, unit_same}
 use Rattle.tclv_engine.proofs.WordBoundLemmas.{substitution_agree}
@@ -41,6 +43,14 @@ steady_same n step st u = with_itself u
 concluding-same : {W : Type 0} → (n : ℕ) (m m' : Res W Outcome) → Same n m m' → Same n (concluding m) (concluding m')
 concluding-same n m m' h = record { same = ap concluding h.same; left = h.left }
 
+-- ---- frames
+
+back-from-same : {W : Type 0} → (n count frame : ℕ) (m m' : Res W Outcome) → Same n m m' → Same n (back_from count frame m) (back_from count frame m')
+back-from-same n count frame m m' h = record { same = ap (back_from count frame) h.same; left = h.left }
+
+framed-agree : {W : Type 0} → (n : ℕ) (body body' : State W → Res W Outcome) → Agree n body body' → Agree n (framed body) (framed body')
+framed-agree n body body' h st u = back-from-same n _ _ (body st) (body' st) (h st u)
+
 module _ {W : Type 0} (n : ℕ) (ev ev' : Evaluator W) (h : EvaluatorsAgree n ev ev') where
   text-agree : (t : Text) → Agree n (text ev t) (text ev' t)
   text-agree t st u = h.scripts (commands t) st u
@@ -59,20 +69,31 @@ module _ {W : Type 0} (n : ℕ) (ev ev' : Evaluator W) (h : EvaluatorsAgree n ev
   choose-agree (a ∷ rest) last st u =
       bind_same (condition_agree n ev ev' h a.test st u) (λ b s1 v. if_same b (lead-agree a.lead s1 v) (choose-agree rest last s1 v))
 
-  perform-agree : {K : Type 0} → (run run' : Text → K → State W → Res W Outcome) → ((t : Text) (behind : K) → Agree n (run t behind) (run' t behind)) → (p : Wanted K) →
+  inside-agree : (d : Procedure) (texts : List Text) → Agree n (body_inside ev d texts) (body_inside ev' d texts)
+  inside-agree d texts st u = bind_same (steady_same n (entered d texts) st u) (λ x. text-agree d.body)
+
+  inner-agree : (i : Inner) → Agree n (inner ev i) (inner ev' i)
+  inner-agree (Here t) st u = text-agree t st u
+  inner-agree (Body d texts) st u = framed-agree n (body_inside ev d texts) (body_inside ev' d texts) (inside-agree d texts) st u
+  inner-agree (There level t) st u =
+      framed-agree n (λ s. text ev t (level_current level s)) (λ s. text ev' t (level_current level s)) (λ s v. text-agree t (level_current level s) v) st u
+
+  perform-agree : {K : Type 0} → (run run' : Inner → K → State W → Res W Outcome) → ((i : Inner) (behind : K) → Agree n (run i behind) (run' i behind)) → (p : Wanted K) →
       Agree n (perform_by ev run p) (perform_by ev' run' p)
   perform-agree run run' k (Finished o) st u = with_itself u
-  perform-agree run run' k (Run t behind) st u = k t behind st u
+  perform-agree run run' k (Run t behind) st u = k (Here t) behind st u
+  perform-agree run run' k (Called d texts behind) st u = k (Body d texts) behind st u
+  perform-agree run run' k (AtLevel level t behind) st u = k (There level t) behind st u
   perform-agree run run' k (Value t) st u = value-agree t st u
   perform-agree run run' k (Choice list last) st u = choose-agree list last st u
   perform-agree run run' k (Tested test body) st u = tested_loop_agree n ev ev' h test body st u
   perform-agree run run' k (Started start test next body) st u = started_loop_agree n ev ev' h start test next body st u
   perform-agree run run' k (Each groups body keep) st u = each_of_agree n ev ev' h (result_of keep) body groups st u
 
-  around-agree : {K : Type 0} → (given : Given W K) (left : ℕ) (t : Text) (behind : K) → Agree n (around left given ev t behind) (around left given ev' t behind)
-  around-agree given zero t behind st u = with_itself u
-  around-agree given (suc left) t behind st u =
-      bind_same (concluding-same n _ _ (text-agree t st u))
+  around-agree : {K : Type 0} → (given : Given W K) (left : ℕ) (i : Inner) (behind : K) → Agree n (around left given ev i behind) (around left given ev' i behind)
+  around-agree given zero i behind st u = with_itself u
+  around-agree given (suc left) i behind st u =
+      bind_same (concluding-same n _ _ (inner-agree i st u))
       (λ e s1 v. bind_same (steady_same n (given.finish behind e) s1 v) (perform-agree (around left given ev) (around left given ev') (around-agree given left)))
 
   -- ---- commands

@@ -1,5 +1,5 @@
 -- An evaluation is one of at most 200.
-use Rattle.std.proofs.Common.{◌≡◌, ◌≤◌, ◌<◌, ◌+◌, ℕ, [], rules, sym, ap, ◌∙◌, true, false, nat_lt, if◌then◌else◌, Result, Ok, Err}
+use Rattle.std.proofs.Common.{◌≡◌, ◌≤◌, ◌<◌, ◌+◌, ℕ, List, [], rules, sym, ap, ◌∙◌, true, false, nat_lt, if◌then◌else◌, Result, Ok, Err}
 use Rattle.tclv_io.specs.World.{World}
 use Rattle.tclv_parse.specs.declared.tree.Script.{Script, out-Script}
 use Rattle.tclv_model.specs.declared.messages.MessageId.TheVariants as message
@@ -8,11 +8,11 @@ use Rattle.tclv_engine.specs.declared.endings.Carried.{Carried}
 use Rattle.tclv_engine.specs.declared.endings.End.{End}
 use Rattle.tclv_engine.specs.declared.endings.End.TheVariants as end
 use Rattle.tclv_engine.specs.declared.machine.Machine.{Machine}
-use Rattle.tclv_engine.specs.State.{State}
+use Rattle.tclv_engine.specs.State.{Text, State}
 use Rattle.tclv_engine.specs.Results.{Ending, Res, Outcome, raise, plain}
-use Rattle.tclv_engine.specs.Evaluation.{Given, whole, nested, sequence, back_to}
+use Rattle.tclv_engine.specs.Evaluation.{Given, whole, nested, sequence, paid_call, back_to}
 use Rattle.tclv_engine.specs.Answers.{Outer, Start, Ends, Cut, Says, Runs, as_outcome}
-use Rattle.tclv_engine.proofs.BoundLemmas.{is_whole}
+use Rattle.tclv_engine.proofs.BoundLemmas.{is_whole, is_whole_of_words}
 
 -- the commands of a script, in the state that its evaluation begins in
 abbrev pub inside : {W K : Type 0} → Given W K → Script → State W → Res W Outcome
@@ -31,6 +31,22 @@ unfolding nested
 under_limit given s st h =
     let yes : nat_lt st.depth 200 ≡ true = search (rules, h) in
     sym (is_whole given s st ∙ ap (λ b. if b then back_to st.depth (inside given s st) else raise message.TooManyNestedEvaluations [] [] NoCode st) yes)
+
+-- the same of words
+pub words_over_limit : {W K : Type 0} → (given : Given W K) (ws : List Text) (st : State W) → 200 ≤ st.depth → (whole given).words ws st ≡ raise message.TooManyNestedEvaluations [] [] NoCode st
+unfolding nested
+words_over_limit given ws st h =
+    let no : nat_lt st.depth 200 ≡ false = search (rules, h) in
+    is_whole_of_words given ws st
+    ∙ ap (λ b. if b then back_to st.depth (paid_call given (whole given) ws (record st { depth = st.depth + 1 })) else raise message.TooManyNestedEvaluations [] [] NoCode st) no
+
+pub words_under_limit : {W K : Type 0} → (given : Given W K) (ws : List Text) (st : State W) → st.depth < 200 →
+    (whole given).words ws st ≡ back_to st.depth (paid_call given (whole given) ws (record st { depth = st.depth + 1 }))
+unfolding nested
+words_under_limit given ws st h =
+    let yes : nat_lt st.depth 200 ≡ true = search (rules, h) in
+    is_whole_of_words given ws st
+    ∙ ap (λ b. if b then back_to st.depth (paid_call given (whole given) ws (record st { depth = st.depth + 1 })) else raise message.TooManyNestedEvaluations [] [] NoCode st) yes
 
 abbrev pub depth_is : {W : Type 0} → ℕ → (Machine W) → (Machine W)
 depth_is n s = record s { depth = n }

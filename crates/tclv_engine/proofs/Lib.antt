@@ -11,10 +11,12 @@ pub mod ExpressionBoundLemmas
 pub mod ExpressionFaultLemmas
 pub mod ExpressionLemmas
 pub mod ForeachLemmas
+pub mod FrameLemmas
 pub mod FunctionLemmas
 pub mod Handed
 pub mod HoldingsLemmas
 pub mod Leaves
+pub mod LinkLemmas
 pub mod ListLemmas
 pub mod LoopBoundLemmas
 pub mod LoopLemmas

@@ -17,8 +17,8 @@ use Rattle.tclv_engine.specs.Results.{Ending, Budget, Res, Outcome, ends, ok, bi
 use Rattle.tclv_engine.specs.Answers.{Outer, Start, start, Ends, Cut, Says, Runs, Caused, Leaves, Above, Keeps, PushesOne, PushesResult, as_outcome, last_of, code_of, options_of}
 use Rattle.tclv_engine.specs.Words.{Evaluator}
 use Rattle.tclv_engine.specs.Expressions.{condition}
-use Rattle.tclv_engine.specs.Plans.{Lead, Alternative, Conclusion, concluded, ended_of, alternative_of, alternatives_of, lead_of, PlanOver}
-use Rattle.tclv_engine.specs.Evaluation.{Given, steady, conclusion, concluding, text, lead, choose, around, perform, call}
+use Rattle.tclv_engine.specs.Plans.{Lead, Alternative, Inner, Conclusion, concluded, ended_of, alternative_of, alternatives_of, lead_of, PlanOver}
+use Rattle.tclv_engine.specs.Evaluation.{Given, steady, conclusion, concluding, inner, lead, choose, around, perform, call}
 use Rattle.tclv_engine.proofs.Binds.{answers_as}
 use Rattle.tclv_engine.proofs.Walks.{drops_one}
 
@@ -37,15 +37,15 @@ call-some given ev n stack st h k =
 
 -- ---- a script, and what stands behind it
 
-pub around-step : {W K : Type 0} → (left : ℕ) (given : Given W K) (ev : Evaluator W) (t : Text) (behind : K) (st : State W) → 0 < left →
-    bind (concluding (text ev t st)) (λ e s1. bind (steady (given.finish behind e) s1) (λ p s2. perform (left - 1) given ev p s2)) ≡ around left given ev t behind st
-around-step zero given ev t behind st h = absurd (omega (arith, h))
-around-step (suc left) given ev t behind st h =
+pub around-step : {W K : Type 0} → (left : ℕ) (given : Given W K) (ev : Evaluator W) (i : Inner) (behind : K) (st : State W) → 0 < left →
+    bind (concluding (inner ev i st)) (λ e s1. bind (steady (given.finish behind e) s1) (λ p s2. perform (left - 1) given ev p s2)) ≡ around left given ev i behind st
+around-step zero given ev i behind st h = absurd (omega (arith, h))
+around-step (suc left) given ev i behind st h =
     let one : suc left - 1 ≡ left = omega arith in
-    ap (λ n. bind (concluding (text ev t st)) (λ e s1. bind (steady (given.finish behind e) s1) (λ p s2. perform n given ev p s2))) one
+    ap (λ n. bind (concluding (inner ev i st)) (λ e s1. bind (steady (given.finish behind e) s1) (λ p s2. perform n given ev p s2))) one
 
-pub around-end : {W K : Type 0} → (left : ℕ) (given : Given W K) (ev : Evaluator W) (t : Text) (behind : K) (st : State W) → left ≡ 0 → ends Budget st ≡ around left given ev t behind st
-around-end left given ev t behind st h = sym (ap (λ n. around n given ev t behind st) h)
+pub around-end : {W K : Type 0} → (left : ℕ) (given : Given W K) (ev : Evaluator W) (i : Inner) (behind : K) (st : State W) → left ≡ 0 → ends Budget st ≡ around left given ev i behind st
+around-end left given ev i behind st h = sym (ap (λ n. around n given ev i behind st) h)
 
 -- ---- how a script ended
 
@@ -165,6 +165,8 @@ above_keeps base stack h = record { kept = h.kept; some = omega (arith, h.some) 
 pub plan_keeps : {K : Type 0} → (base stack : List Text) (p : Plan K) → PlanOver base p stack → Keeps base stack
 plan_keeps base stack (plan.Finished kept) h = above_keeps base stack h
 plan_keeps base stack (plan.Run at behind) h = h.0
+plan_keeps base stack (plan.Called def behind) h = h.0
+plan_keeps base stack (plan.AtLevel level at behind) h = h.0
 plan_keeps base stack (plan.Value at) h = h.0
 plan_keeps base stack (plan.Choice branches) h = h.0
 plan_keeps base stack (plan.Tested test body) h = h.0
@@ -182,6 +184,8 @@ plan_lower base stack n (plan.Finished kept) l h =
     let len : length (take n stack) ≡ n = omega (arith, length-take n stack, h.some, l) in
     record { kept = ap (λ k. take k stack) len; some = omega (arith, len, h.some, l) }
 plan_lower base stack n (plan.Run at behind) l h = (lower base stack n h.0 l, h.1)
+plan_lower base stack n (plan.Called def behind) l h = (lower base stack n h.0 l, h.1)
+plan_lower base stack n (plan.AtLevel level at behind) l h = (lower base stack n h.0 l, h.1)
 plan_lower base stack n (plan.Value at) l h = (lower base stack n h.0 l, h.1)
 plan_lower base stack n (plan.Choice branches) l h = (lower base stack n h.0 l, h.1)
 plan_lower base stack n (plan.Tested test body) l h = (lower base stack n h.0 l, h.1)

@@ -16,7 +16,9 @@ use Rattle.tclv_engine.specs.Words.{Evaluator, words}
 use Rattle.tclv_engine.specs.Expressions.{condition, evaluated}
 use Rattle.tclv_engine.specs.TestedLoops.{tested_loop, started_loop}
 use Rattle.tclv_engine.specs.EachLoops.{each_of, result_of}
-use Rattle.tclv_engine.specs.Plans.{Lead, Script as ScriptLead, Refused, Nothing, Alternative, Wanted, Finished, Run, Value, Choice, Tested, Started, Each, Conclusion}
+use Rattle.tclv_engine.specs.Frames.{framed, level_current, entered}
+use Rattle.tclv_value.specs.Procedures.{Procedure}
+use Rattle.tclv_engine.specs.Plans.{Lead, Script as ScriptLead, Refused, Nothing, Alternative, Inner, Here, Body, There, Wanted, Finished, Run, Called, AtLevel, Value, Choice, Tested, Started, Each, Conclusion}
 
 -- What the evaluation is given: what the words of a command want done, and what is done behind a script that ended. Neither evaluates anything.
 pub record Given (W K : Type 0) : Type 0 where
@@ -60,21 +62,39 @@ unfoldable pub choose : {W : Type 0} → (Evaluator W) → List Alternative → 
 choose ev [] last st = lead ev last st
 choose ev (a ∷ rest) last st = bind (condition ev a.test st) (λ b s1. if b then lead ev a.lead s1 else choose ev rest last s1)
 
--- what is wanted, where `run` runs a script with something behind it
-abbrev pub perform_by : {W K : Type 0} → (Evaluator W) → (Text → K → (State W) → Res W Outcome) → Wanted K → (State W) → Res W Outcome
+-- The body of a procedure, in a frame of its own, in which its parameters have these texts.
+abbrev pub body_inside : {W : Type 0} → (Evaluator W) → Procedure → List Text → (State W) → Res W Outcome
+body_inside ev d texts st = bind (steady (entered d texts) st) (λ u s1. text ev d.body s1)
+
+abbrev pub body : {W : Type 0} → (Evaluator W) → Procedure → List Text → (State W) → Res W Outcome
+body ev d texts st = framed (body_inside ev d texts) st
+
+-- A script in the frame of a level.
+abbrev pub at_level : {W : Type 0} → (Evaluator W) → ℕ → Text → (State W) → Res W Outcome
+at_level ev level t st = framed (λ s. text ev t (level_current level s)) st
+
+abbrev pub inner : {W : Type 0} → (Evaluator W) → Inner → (State W) → Res W Outcome
+inner ev (Here t) st = text ev t st
+inner ev (Body d texts) st = body ev d texts st
+inner ev (There level t) st = at_level ev level t st
+
+-- what is wanted, where `run` runs a script or a body with something behind it
+abbrev pub perform_by : {W K : Type 0} → (Evaluator W) → (Inner → K → (State W) → Res W Outcome) → Wanted K → (State W) → Res W Outcome
 perform_by ev run (Finished o) st = done o st
-perform_by ev run (Run t behind) st = run t behind st
+perform_by ev run (Run t behind) st = run (Here t) behind st
+perform_by ev run (Called d texts behind) st = run (Body d texts) behind st
+perform_by ev run (AtLevel level t behind) st = run (There level t) behind st
 perform_by ev run (Value t) st = value_result ev t st
 perform_by ev run (Choice alternatives last) st = choose ev alternatives last st
 perform_by ev run (Tested test body) st = tested_loop ev test body st
 perform_by ev run (Started start test next body) st = started_loop ev start test next body st
 perform_by ev run (Each groups body keep) st = each_of (result_of keep) ev body groups st
 
--- A script, and then what is wanted behind it, however it ended. No command wants more than three scripts one behind another.
-abbrev pub around : {W K : Type 0} → ℕ → Given W K → (Evaluator W) → Text → K → (State W) → Res W Outcome
-around zero given ev t behind st = ends Budget st
-around (suc left) given ev t behind st =
-    bind (concluding (text ev t st)) (λ e s1. bind (steady (given.finish behind e) s1) (λ p s2. perform_by ev (around left given ev) p s2))
+-- A script or a body, and then what is wanted behind it, however it ended. No command wants more than three of them one behind another.
+abbrev pub around : {W K : Type 0} → ℕ → Given W K → (Evaluator W) → Inner → K → (State W) → Res W Outcome
+around zero given ev i behind st = ends Budget st
+around (suc left) given ev i behind st =
+    bind (concluding (inner ev i st)) (λ e s1. bind (steady (given.finish behind e) s1) (λ p s2. perform_by ev (around left given ev) p s2))
 
 abbrev pub perform : {W K : Type 0} → ℕ → Given W K → (Evaluator W) → Wanted K → (State W) → Res W Outcome
 perform left given ev p st = perform_by ev (around left given ev) p st

@@ -12,6 +12,8 @@ pub mod DataAnswers
 pub mod DataSteps
 pub mod Words
 pub mod ListAssignment
+pub mod Frames
+pub mod Links
 pub mod Loops
 pub mod Operations
 pub mod ExpressionFaults
@@ -23,4 +25,5 @@ pub mod EachSteps
 pub mod Plans
 pub mod Evaluation
 pub mod Bounds
+pub mod Depths
 pub mod Instructions

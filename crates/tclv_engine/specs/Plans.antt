@@ -1,5 +1,5 @@
 -- What a command wants done. A command evaluates nothing: it looks at its words and the state and says what it wants, and the evaluation does it.
-use Rattle.std.specs.Prelude.{◌≡◌, ℕ, ◌<◌, Bool, List, [], length, map, slice_index_or, Option, Some, None, Result, Ok, Err}
+use Rattle.std.specs.Prelude.{◌≡◌, ℕ, ◌<◌, ◌≤◌, Bool, List, [], length, map, slice_index_or, Option, Some, None, Result, Ok, Err}
 use Rattle.std.specs.List.{All}
 use Rattle.tclv_model.specs.declared.outcomes.Code.{Code}
 use Rattle.tclv_model.specs.declared.outcomes.Code.TheVariants as code
@@ -16,7 +16,12 @@ use Rattle.tclv_engine.specs.declared.plans.Branch.{Branch}
 use Rattle.tclv_engine.specs.declared.plans.Branches.{Branches}
 use Rattle.tclv_engine.specs.declared.plans.Way.{Way}
 use Rattle.tclv_engine.specs.declared.plans.Way.TheVariants as way
+use Rattle.tclv_engine.specs.declared.plans.Inner.{Inner as RunOf}
+use Rattle.tclv_engine.specs.declared.plans.Inner.TheVariants as ran
 use Rattle.tclv_engine.specs.State.{Text}
+use Rattle.tclv_engine.specs.Frames.{text_count}
+use Rattle.tclv_value.specs.Procedures.{Procedure}
+use Rattle.tclv_value.specs.Stacks.{top}
 use Rattle.tclv_engine.specs.Results.{Outcome, carried}
 use Rattle.tclv_engine.specs.Answers.{Above, Keeps, code_of, options_of, last_of}
 use Rattle.tclv_engine.specs.declared.each_groups.Group.{Group as PlacedGroup}
@@ -36,12 +41,22 @@ pub record Alternative : Type 0 where
   pub test : Text
   pub lead : Lead
 
--- Nothing more, since the outcome is there; a script, and then what stands behind it, however the script ended; the value of an expression; what
+-- What is run that something stands behind: a script; the body of a procedure, whose parameters get these texts; or a script in the frame of a
+-- level.
+pub data Inner : Type 0 where
+  Here : Text → Inner
+  Body : Procedure → List Text → Inner
+  There : ℕ → Text → Inner
+
+-- Nothing more, since the outcome is there; a script, and then what stands behind it, however the script ended; a procedure with the texts of
+-- its parameters, and what stands behind its body; a script in the frame of a level, and what stands behind it; the value of an expression; what
 -- the first true test of several leads to, or the last lead; a loop with a test and a body; one with a start, a test, a script between turns and
 -- a body; or a loop over lists, with its groups and its body, whose results are kept or not. K is what can stand behind a script.
 pub data Wanted (K : Type 0) : Type 0 where
   Finished : Outcome → Wanted K
   Run : Text → K → Wanted K
+  Called : Procedure → List Text → K → Wanted K
+  AtLevel : ℕ → Text → K → Wanted K
   Value : Text → Wanted K
   Choice : List Alternative → Lead → Wanted K
   Tested : Text → Text → Wanted K
@@ -78,11 +93,19 @@ alternatives_of stack branches = map (alternative_of stack) branches
 abbrev pub wanted_of : {K : Type 0} → Plan K → List Text → Wanted K
 wanted_of (plan.Finished kept) stack = Finished (record { text = last_of stack; options = carried code.Ok kept })
 wanted_of (plan.Run at behind) stack = Run (placed stack at) behind
+wanted_of (plan.Called def behind) stack = Called def.value (top (text_count def.value) stack) behind
+wanted_of (plan.AtLevel level at behind) stack = AtLevel level (placed stack at) behind
 wanted_of (plan.Value at) stack = Value (placed stack at)
 wanted_of (plan.Choice branches) stack = Choice (alternatives_of stack branches.items.items) (lead_of stack branches.last)
 wanted_of (plan.Tested test body) stack = Tested (placed stack test) (placed stack body)
 wanted_of (plan.Started start test next body) stack = Started (placed stack start) (placed stack test) (placed stack next) (placed stack body)
 wanted_of (plan.Each groups body keep) stack = Each (groups_at stack groups.items.items) (placed stack body) keep
+
+-- what is run of a plan
+abbrev pub inner_of : List Text → RunOf → Inner
+inner_of stack (ran.Script at) = Here (placed stack at)
+inner_of stack (ran.Body def) = Body def.value (top (text_count def.value) stack)
+inner_of stack (ran.AtLevel level at) = There level (placed stack at)
 
 -- the call returns a plan that wants this
 abbrev pub as_plan : {K : Type 0} → Wanted K → Plan K → List Text → Type 0
@@ -110,6 +133,11 @@ WayInside stack (way.Refused kind None) = Unit {0}
 WayInside stack (way.Refused kind (Some at)) = at < length stack
 WayInside stack way.Nothing = Unit {0}
 
+abbrev pub InnerInside : List Text → RunOf → Type 0
+InnerInside stack (ran.Script at) = at < length stack
+InnerInside stack (ran.Body def) = text_count def.value ≤ length stack
+InnerInside stack (ran.AtLevel level at) = at < length stack
+
 pub record BranchInside (stack : List Text) (b : Branch) : Type 0 where
   pub test : b.test < length stack
   pub way : WayInside stack b.way
@@ -132,6 +160,8 @@ pub record EachInside (stack : List Text) (groups : List PlacedGroup) (body : �
 abbrev pub PlanOver : {K : Type 0} → List Text → Plan K → List Text → Type 0
 PlanOver base (plan.Finished kept) stack = Above base stack
 PlanOver base (plan.Run at behind) stack = Keeps base stack × (at < length stack)
+PlanOver base (plan.Called def behind) stack = Keeps base stack × (text_count def.value ≤ length stack)
+PlanOver base (plan.AtLevel level at behind) stack = Keeps base stack × (at < length stack)
 PlanOver base (plan.Value at) stack = Keeps base stack × (at < length stack)
 PlanOver base (plan.Choice branches) stack = Keeps base stack × BranchesInside stack branches
 PlanOver base (plan.Tested test body) stack = Keeps base stack × ((test < length stack) × (body < length stack))

@@ -8,6 +8,7 @@ ghost use Rattle.tclv_engine.specs.Words.{Evaluator};
 ghost use Rattle.tclv_engine.specs.Instructions.{GivesValue, FitsTree};
 ghost use Rattle.tclv_engine.specs.Evaluation.{Given};
 ghost use Rattle.tclv_engine.specs.Bounds.{IsWhole, BoundsAgree, IsWholeOfWords, BoundsAgreeOnWords};
+ghost use Rattle.tclv_engine.specs.Depths.{IsFull, IsOneMore, IsFullOfWords, IsOneMoreOfWords};
 
 /// The meaning of a script is one: a script does what its commands do, whose inner scripts have the
 /// same meaning. So it is with words that are run as a command. It is defined by recursion on a
@@ -21,6 +22,17 @@ pub fn no_bound_shows<W, K>()
     ensures bounds { (given : Given W K) (s : Script) (st : State W) → BoundsAgree given s st }
     ensures whole_words { (given : Given W K) (ws : List Text) (st : State W) → IsWholeOfWords given ws st }
     ensures bounds_on_words { (given : Given W K) (ws : List Text) (st : State W) → BoundsAgreeOnWords given ws st }
+{}
+
+/// At most 200 evaluations stand in one another, whatever commands there are and whatever calls whom.
+/// Where 200 do, each script and all words that are run as a command are an error, which takes no unit
+/// and changes nothing. Where fewer do, they run with one more, and behind them as many stand in one
+/// another as before, however they ended.
+pub fn at_most_200<W, K>()
+    ensures full { (given : Given W K) (s : Script) (st : State W) → IsFull given s st }
+    ensures one_more { (given : Given W K) (s : Script) (st : State W) → IsOneMore given s st }
+    ensures full_of_words { (given : Given W K) (ws : List Text) (st : State W) → IsFullOfWords given ws st }
+    ensures one_more_of_words { (given : Given W K) (ws : List Text) (st : State W) → IsOneMoreOfWords given ws st }
 {}
 
 /// The instructions that the tree of an expression is laid flat to give its value: the same ending,

@@ -1,5 +1,5 @@
 // The cells that names stand for in the current frame.
-ghost use Rattle.std.specs.Prelude.{◌≡◌, ℕ, ◌||◌, not, nat_eq, Ok, IsTrue, IfOk, IfErr, OnErr};
+ghost use Rattle.std.specs.Prelude.{◌≡◌, ℕ, ◌||◌, not, nat_eq, Ok, IsTrue, IfOk, IfErr, OnOk, OnErr};
 ghost use Rattle.tclv_text.specs.Texts.{IsText};
 ghost use Rattle.tclv_reply.specs.Names.{naming, shape_of};
 ghost use Rattle.tclv_vars.specs.Sound.{Sound};
@@ -8,7 +8,7 @@ ghost use Rattle.tclv_vars.specs.Undo.{missing, FreshWrite};
 ghost use Rattle.tclv_engine.specs.Names as spec;
 
 use tclv_reply::NameShape;
-use tclv_vars::{Missing, Place, VarFault, Vars};
+use tclv_vars::{Missing, Place, Root, VarFault, Vars};
 
 /// The cell of what a name names, given with its shape. Refuses as `tclv_vars::Vars::read` does. Takes
 /// no memory.
@@ -33,6 +33,26 @@ pub fn write_named(vars: &mut Vars, name: &[u8], shape: NameShape) -> Result<(u6
     ensures fresh { IfOk result (λ p. p.1 ≡ not (has_value vars.old p.0)) }
 {
     vars.write(Place::Frame, shape.name(name), shape.index(name))
+}
+
+/// Makes the local name a second name of what another name names, given with its shape, which stands
+/// where the root says. Refuses as `tclv_vars::Vars::link` does; after a refusal all is as before.
+pub fn link_named(
+    vars: &mut Vars,
+    local: &[u8],
+    root: Root,
+    other: &[u8],
+    shape: NameShape,
+) -> Result<(), VarFault>
+    requires local { IsText local.now }
+    requires other { IsText other.now }
+    requires shape { shape ≡ shape_of other.now }
+    ensures linked { OnOk result (spec.link_named vars.old local.now root (naming other.now) ≡ Ok vars.new) }
+    ensures refused { IfErr result (Refuses (spec.link_named vars.old local.now root (naming other.now))) }
+    ensures same { OnErr result (vars.new ≡ vars.old) }
+    ensures values { (c : ℕ) → has_value vars.new c ≡ has_value vars.old c }
+{
+    vars.link(local, root, shape.name(other), shape.index(other))
 }
 
 /// What isn't there of what a name names, given with its shape. Takes no memory.

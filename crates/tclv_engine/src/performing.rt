@@ -14,7 +14,7 @@ ghost use Rattle.tclv_engine.specs.Plans as plans;
 use crate::endings::{Carried, End, Ended};
 use crate::host::Host;
 use crate::machine::Machine;
-use crate::plans::{Branch, Plan, Way};
+use crate::plans::{Branch, Inner, Plan, Way};
 use tclv_io::Outside;
 use tclv_model::{ErrorCode, MessageId};
 use tclv_value::At;
@@ -66,7 +66,15 @@ impl<W> Machine<W> {
     {
         match plan {
             Plan::Finished(kept) => Ok(kept),
-            Plan::Run(at, behind) => self.around(host, out, at, behind, base, left),
+            Plan::Run(at, behind) => {
+                self.around(host, out, Inner::Script(at), behind, base, left)
+            }
+            Plan::Called(def, behind) => {
+                self.around(host, out, Inner::Body(def), behind, base, left)
+            }
+            Plan::AtLevel(level, at, behind) => {
+                self.around(host, out, Inner::AtLevel(level, at), behind, base, left)
+            }
             Plan::Value(at) => self.value_at(host, out, at),
             Plan::Choice(branches) => {
                 self.run_branches(host, out, branches.items.as_slice(), branches.last)
@@ -79,23 +87,23 @@ impl<W> Machine<W> {
         }
     }
 
-    /// Runs the script of a place of the stack, and does what stands behind it, over the first `base`
-    /// texts of the stack.
+    /// Runs a script or a body, and does what stands behind it, over the first `base` texts of the
+    /// stack.
     #[cycle(eval)]
     fn around<H: Host<Own = W>, O: Outside>(
         &mut self,
         host: &H,
         out: &mut O,
-        at: usize,
+        inner: Inner,
         behind: H::Behind,
         base: usize,
         left: u8,
     ) -> Result<Carried, End>
         requires base { base ≤ length self.old.values.store.stack }
-        requires place { at < length self.old.values.store.stack }
+        requires inside { plans.InnerInside self.old.values.store.stack inner }
         requires fits { H.fits self.old.own (O.told out.old) ≡ true }
         ensures answer { AnswersOver (spec.around left H.given (whole H.given)
-            (plans.placed self.old.values.store.stack at) behind) as_outcome self.old (outer (O.told out.old) (O.torn out.old)) result self.new
+            (plans.inner_of self.old.values.store.stack inner) behind) as_outcome self.old (outer (O.told out.old) (O.torn out.old)) result self.new
             (outer (O.told out.new) (O.torn out.new)) }
         ensures stack { PushesResult (take base self.old.values.store.stack) result self.new.values.store.stack }
         ensures cause { Caused (O.faults out.old) (O.faults out.new) result }
@@ -105,9 +113,33 @@ impl<W> Machine<W> {
         if left == 0 {
             return Err(End::Budget);
         }
-        let ended = caught(self.script_at(host, out, At::Stack(at)))?;
+        let ended = caught(self.run_inner(host, out, inner))?;
         let plan = host.finish(self, out, behind, ended)?;
         self.perform(host, out, plan, base, left - 1)
+    }
+
+    /// Runs a script or a body. Its result is pushed.
+    #[cycle(eval)]
+    fn run_inner<H: Host<Own = W>, O: Outside>(
+        &mut self,
+        host: &H,
+        out: &mut O,
+        inner: Inner,
+    ) -> Result<Carried, End>
+        requires inside { plans.InnerInside self.old.values.store.stack inner }
+        requires fits { H.fits self.old.own (O.told out.old) ≡ true }
+        ensures answer { AnswersOver (spec.inner (whole H.given) (plans.inner_of self.old.values.store.stack inner)) as_outcome self.old
+            (outer (O.told out.old) (O.torn out.old)) result self.new (outer (O.told out.new) (O.torn out.new)) }
+        ensures stack { PushesOne self.old.values.store.stack result self.new.values.store.stack }
+        ensures cause { Caused (O.faults out.old) (O.faults out.new) result }
+        ensures units { self.new.units ≤ self.old.units }
+        ensures fits { H.fits self.new.own (O.told out.new) ≡ true }
+    {
+        match inner {
+            Inner::Script(at) => self.script_at(host, out, At::Stack(at)),
+            Inner::Body(def) => self.body_of(host, out, &def),
+            Inner::AtLevel(level, at) => self.script_at_level(host, out, level, at),
+        }
     }
 
     /// Pushes the value of the expression that the text of a place of the stack is, as a result.

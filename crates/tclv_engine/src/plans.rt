@@ -2,7 +2,9 @@
 
 use crate::each_groups::Groups;
 use crate::endings::Carried;
+use std::rc::Rc;
 use tclv_model::MessageId;
+use tclv_value::ProcDef;
 
 /// What a test leads to that is true.
 #[derive(Clone, Copy, Debug, PartialEq, Eq)]
@@ -30,6 +32,17 @@ pub struct Branches {
     pub last: Way,
 }
 
+/// What is run that something stands behind.
+#[derive(Drop)]
+pub enum Inner {
+    /// The script of a place.
+    Script(usize),
+    /// The body of a procedure, whose parameters get the top texts, in a frame of its own.
+    Body(Rc<ProcDef>),
+    /// The script of a place, in the frame of a level.
+    AtLevel(usize, usize),
+}
+
 /// What the evaluation is to do for a command. Texts are named by their places on the stack.
 #[derive(Drop)]
 pub enum Plan<K> {
@@ -37,6 +50,11 @@ pub enum Plan<K> {
     Finished(Carried),
     /// Run one script, and then finish, however it ended.
     Run(usize, K),
+    /// Run the body of a procedure, whose parameters get the top texts, in a frame of its own, and
+    /// then finish, however it ended.
+    Called(Rc<ProcDef>, K),
+    /// Run a script in the frame of this level, and then finish, however it ended.
+    AtLevel(usize, usize, K),
     /// The value of an expression is the result.
     Value(usize),
     /// Evaluate tests up to the first that is true, and then what it leads to.

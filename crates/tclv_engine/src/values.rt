@@ -1,5 +1,5 @@
 // The values of a run: a stack of texts, and variables.
-ghost use Rattle.std.specs.Prelude.{◌≡◌, ◌+◌, ◌-◌, ◌<◌, ◌≤◌, ◌++◌, [], ◌∷◌, length, take, Ok, Err, ◌↔◌, IsTrue, IsOkAnd, IfOk, IfErr, IfSome, OnOk, OnErr, option_to_list, slice_get, slice_set, None, Some, slice_index_or};
+ghost use Rattle.std.specs.Prelude.{◌≡◌, ◌+◌, ◌-◌, ◌<◌, ◌≤◌, ◌++◌, [], ◌∷◌, length, take, Ok, Err, ◌↔◌, IsTrue, IsOkAnd, IfOk, IfErr, IfSome, OnOk, OnErr, option_to_list, slice_get, slice_set, None, Some, slice_index_or, true};
 ghost use Rattle.tclv_text.specs.Elements.{elements};
 ghost use Rattle.tclv_value.specs.ListObjects.{IsElementMade};
 ghost use Rattle.std.specs.Str.{chars};
@@ -11,12 +11,13 @@ ghost use Rattle.tclv_text.specs.Numbers.{whole, whole_text};
 ghost use Rattle.tclv_parse.specs.Grammar.{commands};
 ghost use Rattle.tclv_exprp.specs.Flat as instructions;
 ghost use Rattle.tclv_exprp.specs.Flat.{instructions_of};
-ghost use Rattle.tclv_vars.specs.Clearing.{outermost, outermost_texts, IsOutermost};
-ghost use Rattle.tclv_vars.specs.Table.{no_variables, Refuses};
+ghost use Rattle.tclv_vars.specs.Clearing.{back_in, left_behind, outermost, outermost_texts, IsOutermost};
+ghost use Rattle.tclv_vars.specs.Scoping.{at_level, is_local_at, level_of};
+ghost use Rattle.tclv_vars.specs.Table.{at_scopes, begun, no_variables, Refuses};
 ghost use Rattle.tclv_value.specs.View.{HasPlace, text_at, IsMade};
 ghost use Rattle.tclv_value.specs.Stacks.{top, under};
 
-use crate::named_cells::{missing_named, read_named, take_back_named, write_named};
+use crate::named_cells::{link_named, missing_named, read_named, take_back_named, write_named};
 use sqlite_items::Items;
 use std::alloc::Global;
 use std::marker::Model;
@@ -27,7 +28,7 @@ use tclv_parse::Script;
 use tclv_reply::{NameShape, list_len};
 use tclv_text::{NoMemory, Stats, Text};
 use tclv_value::{At, Store, ValueFault};
-use tclv_vars::{Place, VarFault, Vars};
+use tclv_vars::{Place, Root, VarFault, Vars};
 
 /// The values of a run: a stack of texts, and the variables with their texts.
 ///
@@ -407,6 +408,95 @@ impl Values {
         ensures stack { self.new.store.stack ≡ self.old.store.stack }
     {
         self.vars.end_frames(&mut self.store);
+    }
+
+    /// Ends the frames behind the first `count`, the last first, each with the variables that are its
+    /// own. Then the frame of that number is current, where it is there. Takes no memory.
+    pub fn back_to_frame(&mut self, count: usize, frame: usize)
+        requires { 0 < count }
+        ensures vars { self.new.vars ≡ back_in count frame self.old.vars }
+        ensures cells { self.new.store.cells ≡ left_behind count self.old.vars self.old.store.cells }
+        ensures stack { self.new.store.stack ≡ self.old.store.stack }
+    {
+        self.vars.back_to_frame(&mut self.store, count, frame);
+    }
+
+    /// Pushes a local frame of the global namespace, which is current then. After `NoMemory` all is as
+    /// before.
+    pub fn push_frame(&mut self) -> Result<(), NoMemory>
+        ensures vars { OnOk result (self.new.vars ≡ begun self.old.vars 0 true) }
+        ensures cells { self.new.store.cells ≡ self.old.store.cells }
+        ensures stack { self.new.store.stack ≡ self.old.store.stack }
+        ensures same { OnErr result (SameVariables self.old self.new) }
+    {
+        self.vars.push_frame(0, true)
+    }
+
+    /// Makes the frame of that level current, of the current one and those that called it. Above the
+    /// current level there is none, and nothing changes then. Takes no memory.
+    pub fn use_level(&mut self, level: usize)
+        ensures vars { self.new.vars ≡ at_scopes self.old.vars (at_level self.old.vars.scopes level) }
+        ensures cells { self.new.store.cells ≡ self.old.store.cells }
+        ensures stack { self.new.store.stack ≡ self.old.store.stack }
+    {
+        let _known = self.vars.use_level(level);
+    }
+
+    /// Makes the name that is the text of a place a second name of what the text of another place names,
+    /// given with its shape, which stands where the root says. Both texts are made. Refuses as
+    /// `tclv_vars::Vars::link` does, and after a refusal all is as before.
+    pub fn link(
+        &mut self,
+        local: At,
+        root: Root,
+        other: At,
+        shape: NameShape,
+    ) -> Result<(), VarFault>
+        requires local { HasPlace self.old.store local }
+        requires local_made { IsMade self.old.store local }
+        requires other { HasPlace self.old.store other }
+        requires other_made { IsMade self.old.store other }
+        requires shape { shape ≡ shape_of (bytes_of (text_at self.old.store other)) }
+        ensures linked { OnOk result (spec_names.link_named self.old.vars (bytes_of (text_at self.old.store local)) root
+            (naming (bytes_of (text_at self.old.store other)))
+            ≡ Ok self.new.vars) }
+        ensures refused { IfErr result (Refuses (spec_names.link_named self.old.vars (bytes_of (text_at self.old.store local)) root
+            (naming (bytes_of (text_at self.old.store other))))) }
+        ensures store { self.new.store ≡ self.old.store }
+        ensures same { OnErr result (self.new.vars ≡ self.old.vars) }
+    {
+        let local = lent(&self.store, local);
+        let other = lent(&self.store, other);
+        link_named(&mut self.vars, local, root, other, shape)
+    }
+
+    /// The level of the current frame, 0 for the global one.
+    pub fn level(&self) -> usize
+        ensures { result ≡ level_of self.now.vars.scopes self.now.vars.scopes.current }
+    {
+        self.vars.level()
+    }
+
+    /// Whether the current frame is local.
+    pub fn is_local(&self) -> bool
+        ensures { result ≡ is_local_at self.now.vars.scopes self.now.vars.scopes.current }
+    {
+        self.vars.is_local()
+    }
+
+    /// The number of the current frame.
+    pub fn frame(&self) -> usize
+        ensures { result ≡ self.now.vars.scopes.current }
+    {
+        self.vars.frame()
+    }
+
+    /// How many frames there are, the global one among them.
+    pub fn frame_count(&self) -> usize
+        ensures count { result ≡ length self.now.vars.scopes.frames }
+        ensures some { 0 < result }
+    {
+        self.vars.frame_count()
     }
 
     /// How much work was done.

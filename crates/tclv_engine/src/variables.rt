@@ -34,8 +34,8 @@ fn unreadable(fault: VarFault) -> (MessageId, ErrorCode)
     }
 }
 
-// The name of an element, as a script writes it.
-fn element_name(alloc: Global, array: &[u8], index: &[u8]) -> Result<Text, NoMemory>
+/// The name of an element, as a script writes it.
+pub fn element_name(alloc: Global, array: &[u8], index: &[u8]) -> Result<Text, NoMemory>
     requires array { IsText array.now }
     requires index { IsText index.now }
     ensures { IfOk result (λ name. name ≡ spec.element_name (chars array.now) (chars index.now)) }

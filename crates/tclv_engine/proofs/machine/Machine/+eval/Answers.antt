@@ -5,9 +5,11 @@ use Rattle.tclv_engine.specs.State.{Text, state_of}
 use Rattle.tclv_engine.specs.Results.{done, ok, plain, bind}
 use Rattle.tclv_engine.specs.Words.{words, joined, part_value, expanded, bracketed}
 use Rattle.tclv_engine.specs.Variables.{variable, element_value}
-use Rattle.tclv_engine.specs.Evaluation.{whole, steady, lead, choose, perform, sequence, command, call}
+use Rattle.tclv_engine.specs.Evaluation.{whole, steady, text, body, body_inside, inner, lead, choose, perform, sequence, command, call}
 use Rattle.tclv_engine.specs.declared.plans.Plan.{Plan}
-use Rattle.tclv_engine.specs.Plans.{PlanOver, placed, placed_or_none, wanted_of, lead_of, alternatives_of, concluded}
+use Rattle.tclv_engine.specs.Frames.{entered, text_count, level_current}
+use Rattle.tclv_engine.proofs.FrameLemmas.{framed_by, restored_runs, restored_pushes, level_state}
+use Rattle.tclv_engine.specs.Plans.{PlanOver, inner_of, placed, placed_or_none, wanted_of, lead_of, alternatives_of, concluded}
 use Rattle.tclv_engine.specs.Answers.{outer, returned, last_of, as_outcome, Leaves, PushesOne, PushesResult, stacked, on_top, Over, Keeps}
 use Rattle.tclv_engine.proofs.Binds.{bind_ok, bind_stop, then_stop, runs_as, answers_as, bind-done, calm_caused}
 use Rattle.tclv_engine.proofs.Leaves.{budget_runs, done_runs, value_runs, raise_runs, raise_first, raise_bare, memory_runs, from_same, then_same, same_state}
@@ -908,27 +910,27 @@ call-returns-clause-answer g t c w told =
 
 pub around-returns-then-left-eq0-clause-answer : goal.around-returns-then-left-eq0-clause-answer
 around-returns-then-left-eq0-clause-answer g t c w told =
-    runs_as (around-end c.args.left g.H.Host.given (whole g.H.Host.given) (placed c.args.self.now.values.store.stack c.args.at) c.args.behind (state_of c.args.self.now w) c.if-left-eq0.true)
+    runs_as (around-end c.args.left g.H.Host.given (whole g.H.Host.given) (inner_of c.args.self.now.values.store.stack c.args.inner) c.args.behind (state_of c.args.self.now w) c.if-left-eq0.true)
     (budget_runs told refl)
 
 pub around-returns-in_err-ended-clause-answer : goal.around-returns-in_err-ended-clause-answer
 around-returns-in_err-ended-clause-answer g t c w told =
-    runs_as (around-step c.args.left g.H.Host.given (whole g.H.Host.given) (placed c.args.self.now.values.store.stack c.args.at) c.args.behind (state_of c.args.self.now w) (search (rules, c.if-left-eq0.false)))
-    (then_stop _ (search rules) (concluding_runs c.in_err-ended.ensures (c.script_at.ensures.answer w told)))
+    runs_as (around-step c.args.left g.H.Host.given (whole g.H.Host.given) (inner_of c.args.self.now.values.store.stack c.args.inner) c.args.behind (state_of c.args.self.now w) (search (rules, c.if-left-eq0.false)))
+    (then_stop _ (search rules) (concluding_runs c.in_err-ended.ensures (c.run_inner.ensures.answer w told)))
 
 pub around-returns-in_err-plan-clause-answer : goal.around-returns-in_err-plan-clause-answer
 around-returns-in_err-plan-clause-answer g t c w told =
-    runs_as (around-step c.args.left g.H.Host.given (whole g.H.Host.given) (placed c.args.self.now.values.store.stack c.args.at) c.args.behind (state_of c.args.self.now w) (search (rules, c.if-left-eq0.false)))
-    (bind_ok _ (concluding_runs c.in_ok-ended.ensures (c.script_at.ensures.answer w told))
-    (λ e v told2 shown. runs_as (ap (λ x. bind (steady (g.H.Host.given.finish c.args.behind x) (state_of c.script_at.new.self v)) (λ p s2. perform (c.args.left - 1) g.H.Host.given (whole g.H.Host.given) p s2)) shown)
-    (then_stop _ (search rules) (steady_runs (g.H.Host.given.finish c.args.behind (concluded c.in_ok-ended.ended (last_of c.script_at.new.self.values.store.stack))) c.in_err-plan.ensures.units (c.in_err-plan.ensures.answer v told2)))))
+    runs_as (around-step c.args.left g.H.Host.given (whole g.H.Host.given) (inner_of c.args.self.now.values.store.stack c.args.inner) c.args.behind (state_of c.args.self.now w) (search (rules, c.if-left-eq0.false)))
+    (bind_ok _ (concluding_runs c.in_ok-ended.ensures (c.run_inner.ensures.answer w told))
+    (λ e v told2 shown. runs_as (ap (λ x. bind (steady (g.H.Host.given.finish c.args.behind x) (state_of c.run_inner.new.self v)) (λ p s2. perform (c.args.left - 1) g.H.Host.given (whole g.H.Host.given) p s2)) shown)
+    (then_stop _ (search rules) (steady_runs (g.H.Host.given.finish c.args.behind (concluded c.in_ok-ended.ended (last_of c.run_inner.new.self.values.store.stack))) c.in_err-plan.ensures.units (c.in_err-plan.ensures.answer v told2)))))
 
 pub around-returns-clause-answer : goal.around-returns-clause-answer
 around-returns-clause-answer g t c w told =
-    runs_as (around-step c.args.left g.H.Host.given (whole g.H.Host.given) (placed c.args.self.now.values.store.stack c.args.at) c.args.behind (state_of c.args.self.now w) (search (rules, c.if-left-eq0.false)))
-    (bind_ok _ (concluding_runs c.in_ok-ended.ensures (c.script_at.ensures.answer w told))
-    (λ e v told2 shown. runs_as (ap (λ x. bind (steady (g.H.Host.given.finish c.args.behind x) (state_of c.script_at.new.self v)) (λ p s2. perform (c.args.left - 1) g.H.Host.given (whole g.H.Host.given) p s2)) shown)
-    (bind_ok _ (steady_runs (g.H.Host.given.finish c.args.behind (concluded c.in_ok-ended.ended (last_of c.script_at.new.self.values.store.stack))) c.in_ok-plan.ensures.units (c.in_ok-plan.ensures.answer v told2))
+    runs_as (around-step c.args.left g.H.Host.given (whole g.H.Host.given) (inner_of c.args.self.now.values.store.stack c.args.inner) c.args.behind (state_of c.args.self.now w) (search (rules, c.if-left-eq0.false)))
+    (bind_ok _ (concluding_runs c.in_ok-ended.ensures (c.run_inner.ensures.answer w told))
+    (λ e v told2 shown. runs_as (ap (λ x. bind (steady (g.H.Host.given.finish c.args.behind x) (state_of c.run_inner.new.self v)) (λ p s2. perform (c.args.left - 1) g.H.Host.given (whole g.H.Host.given) p s2)) shown)
+    (bind_ok _ (steady_runs (g.H.Host.given.finish c.args.behind (concluded c.in_ok-ended.ended (last_of c.run_inner.new.self.values.store.stack))) c.in_ok-plan.ensures.units (c.in_ok-plan.ensures.answer v told2))
     (λ p v3 told3 shown3. runs_as (ap (λ x. perform (c.args.left - 1) g.H.Host.given (whole g.H.Host.given) x (state_of c.finish.new.machine v3)) (sym shown3)) (c.perform.ensures.answer v3 told3)))))
 
 pub perform-returns-in-Finished-clause-answer : goal.perform-returns-in-Finished-clause-answer
@@ -940,6 +942,16 @@ pub perform-returns-in-Run-clause-answer : goal.perform-returns-in-Run-clause-an
 perform-returns-in-Run-clause-answer g t c w told =
     runs_as (ap (λ p. perform c.args.left g.H.Host.given (whole g.H.Host.given) (wanted_of p c.args.self.now.values.store.stack) (state_of c.args.self.now w)) (sym c.in-Run.is))
     (c.around.ensures.answer w told)
+
+pub perform-returns-in-Called-clause-answer : goal.perform-returns-in-Called-clause-answer
+perform-returns-in-Called-clause-answer g t c w told =
+    runs_as (ap (λ p. perform c.args.left g.H.Host.given (whole g.H.Host.given) (wanted_of p c.args.self.now.values.store.stack) (state_of c.args.self.now w)) (sym c.in-Called.is))
+    (c.around-in-Called.ensures.answer w told)
+
+pub perform-returns-in-AtLevel-clause-answer : goal.perform-returns-in-AtLevel-clause-answer
+perform-returns-in-AtLevel-clause-answer g t c w told =
+    runs_as (ap (λ p. perform c.args.left g.H.Host.given (whole g.H.Host.given) (wanted_of p c.args.self.now.values.store.stack) (state_of c.args.self.now w)) (sym c.in-AtLevel.is))
+    (c.around-in-AtLevel.ensures.answer w told)
 
 pub perform-returns-in-Value-clause-answer : goal.perform-returns-in-Value-clause-answer
 perform-returns-in-Value-clause-answer g t c w told =
@@ -971,9 +983,9 @@ perform-returns-in-Each-clause-answer g t c w told =
 pub around-perform-requires : goal.around-perform-requires
 around-perform-requires g t c =
     let first = c.args.self.now.values.store.stack in
-    let mid = c.script_at.new.self.values.store.stack in
+    let mid = c.run_inner.new.self.values.store.stack in
     let last = c.finish.new.machine.values.store.stack in
-    let above = ended_above first mid c.script_at.result c.caught.result c.in_ok-ended.ended c.caught.ensures (search rules) c.script_at.ensures.stack in
+    let above = ended_above first mid c.run_inner.result c.caught.result c.in_ok-ended.ended c.caught.ensures (search rules) c.run_inner.ensures.stack in
     let low = under_length first mid c.args.base c.requires.base above in
     let keeps = plan_keeps (under 1 mid) last c.in_ok-plan.plan c.in_ok-plan.ensures.stack in
     let base : c.args.base ≤ length last = omega (arith, low, keeps.some) in
@@ -984,16 +996,16 @@ around-perform-requires g t c =
 pub around-returns-in_err-plan-clause-stack : goal.around-returns-in_err-plan-clause-stack
 around-returns-in_err-plan-clause-stack g t c =
     let first = c.args.self.now.values.store.stack in
-    let mid = c.script_at.new.self.values.store.stack in
-    let above = ended_above first mid c.script_at.result c.caught.result c.in_ok-ended.ended c.caught.ensures (search rules) c.script_at.ensures.stack in
+    let mid = c.run_inner.new.self.values.store.stack in
+    let above = ended_above first mid c.run_inner.result c.caught.result c.in_ok-ended.ended c.caught.ensures (search rules) c.run_inner.ensures.stack in
     stopped_lowest {S = Plan g.row.H-Behind.Denot} (PlanOver (under 1 mid)) first mid c.finish.new.machine.values.store.stack c.args.base c.in_err-plan.field-0.0 _ (search rules) c.requires.base above c.in_err-plan.ensures.stack
 
 pub around-returns-clause-stack : goal.around-returns-clause-stack
 around-returns-clause-stack g t c =
     let first = c.args.self.now.values.store.stack in
-    let mid = c.script_at.new.self.values.store.stack in
+    let mid = c.run_inner.new.self.values.store.stack in
     let last = c.finish.new.machine.values.store.stack in
-    let above = ended_above first mid c.script_at.result c.caught.result c.in_ok-ended.ended c.caught.ensures (search rules) c.script_at.ensures.stack in
+    let above = ended_above first mid c.run_inner.result c.caught.result c.in_ok-ended.ended c.caught.ensures (search rules) c.run_inner.ensures.stack in
     let keeps = plan_keeps (under 1 mid) last c.in_ok-plan.plan c.in_ok-plan.ensures.stack in
     subst (λ b. PushesResult b c.perform.result c.perform.new.self.values.store.stack) (lowest_kept first mid last c.args.base c.requires.base above keeps) c.perform.ensures.stack
 
@@ -1079,3 +1091,58 @@ run_branches-returns-clause-answer g t c w told =
     c.loop-i.invariant.goes w told _ _ _
     (λ v e. runs_as (choose-end (whole g.H.Host.given) stack c.args.branches.now (lead_of stack c.args.last) c.loop-i.i (state_of c.loop-i.self v) (search rules))
     (runs_as (ap (λ s. lead (whole g.H.Host.given) (lead_of s c.args.last) (state_of c.loop-i.self v)) c.loop-i.invariant.shape) (c.lead-2.ensures.answer v e)))
+
+-- ---- what runs in a frame
+
+pub run_inner-returns-in-Script-clause-answer : goal.run_inner-returns-in-Script-clause-answer
+run_inner-returns-in-Script-clause-answer g t c w told =
+    runs_as (ap (λ i. inner (whole g.H.Host.given) (inner_of c.args.self.now.values.store.stack i) (state_of c.args.self.now w)) (sym c.in-Script.is))
+    (c.script_at.ensures.answer w told)
+
+pub run_inner-returns-in-Body-clause-answer : goal.run_inner-returns-in-Body-clause-answer
+run_inner-returns-in-Body-clause-answer g t c w told =
+    let stack = c.args.self.now.values.store.stack in
+    runs_as (ap (λ i. inner (whole g.H.Host.given) (inner_of stack i) (state_of c.args.self.now w)) (sym c.in-Body.is))
+    (runs_as (ap (λ d. body (whole g.H.Host.given) d (top (text_count d) stack) (state_of c.args.self.now w)) c.deref.ensures)
+    (c.body_of.ensures.answer w told))
+
+pub run_inner-returns-in-AtLevel-clause-answer : goal.run_inner-returns-in-AtLevel-clause-answer
+run_inner-returns-in-AtLevel-clause-answer g t c w told =
+    runs_as (ap (λ i. inner (whole g.H.Host.given) (inner_of c.args.self.now.values.store.stack i) (state_of c.args.self.now w)) (sym c.in-AtLevel.is))
+    (c.script_at_level.ensures.answer w told)
+
+pub body_of-returns-clause-answer : goal.body_of-returns-clause-answer
+body_of-returns-clause-answer g t c w told =
+    let texts = top (text_count c.args.def.now) c.args.self.now.values.store.stack in
+    runs_as (framed_by (body_inside (whole g.H.Host.given) c.args.def.now texts) c.frame_count-count.result c.frame-frame.result (state_of c.args.self.now w) c.frame_count-count.ensures.count c.frame-frame.ensures)
+    (restored_runs c.back_to_frame.ensures (c.body_inside-ended.ensures.answer w told))
+
+pub body_of-returns-clause-stack : goal.body_of-returns-clause-stack
+body_of-returns-clause-stack g t c =
+    restored_pushes c.body_inside-ended.result c.args.self.now.values.store.stack c.body_inside-ended.new.self.values.store.stack c.back_to_frame.new.self.values.store.stack c.back_to_frame.ensures.stack c.body_inside-ended.ensures.stack
+
+pub body_inside-returns-in_err-enter-clause-answer : goal.body_inside-returns-in_err-enter-clause-answer
+body_inside-returns-in_err-enter-clause-answer g t c w told =
+    let texts = top (text_count c.args.def.now) c.args.self.now.values.store.stack in
+    then_stop _ (search rules) (steady_runs (entered c.args.def.now texts) c.in_err-enter.ensures.units (c.in_err-enter.ensures.answer (outer (g.O.Outside.told c.args.out.now) (g.O.Outside.torn c.args.out.now)) w told))
+
+pub body_inside-returns-clause-answer : goal.body_inside-returns-clause-answer
+body_inside-returns-clause-answer g t c w told =
+    let texts = top (text_count c.args.def.now) c.args.self.now.values.store.stack in
+    bind_ok _ (steady_runs (entered c.args.def.now texts) c.in_ok-enter.ensures.units (c.in_ok-enter.ensures.answer (outer (g.O.Outside.told c.args.out.now) (g.O.Outside.torn c.args.out.now)) w told))
+    (λ u v e shown. runs_as (ap (λ s. (whole g.H.Host.given).script s (state_of c.enter.new.self v)) c.tree.ensures) (c.script.ensures.answer v e))
+
+pub script_at_level-returns-clause-answer : goal.script_at_level-returns-clause-answer
+script_at_level-returns-clause-answer g t c w told =
+    let old = c.args.self.now in
+    let mid = record old { values = c.use_level.new.self } in
+    let script = placed old.values.store.stack c.args.at in
+    runs_as (framed_by (λ s. text (whole g.H.Host.given) script (level_current c.args.level s)) c.frame_count-count.result c.frame-frame.result (state_of old w) c.frame_count-count.ensures.count c.frame-frame.ensures)
+    (restored_runs c.back_to_frame.ensures
+    (runs_as (ap (λ s. text (whole g.H.Host.given) (placed s c.args.at) (state_of mid w)) c.use_level.ensures.stack ∙ ap (text (whole g.H.Host.given) script) (level_state old c.use_level.new.self c.args.level w c.use_level.ensures.vars c.use_level.ensures.cells))
+    (c.script_at-ended.ensures.answer w told)))
+
+pub script_at_level-returns-clause-stack : goal.script_at_level-returns-clause-stack
+script_at_level-returns-clause-stack g t c =
+    subst (λ b. PushesOne b c.script_at-ended.result c.back_to_frame.new.self.values.store.stack) c.use_level.ensures.stack
+    (restored_pushes c.script_at-ended.result c.use_level.new.self.store.stack c.script_at-ended.new.self.values.store.stack c.back_to_frame.new.self.values.store.stack c.back_to_frame.ensures.stack c.script_at-ended.ensures.stack)

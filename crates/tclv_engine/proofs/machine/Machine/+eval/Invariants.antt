@@ -153,6 +153,18 @@ decreases-lead g l = 65536 * l.self.now.units + 41000
 abbrev pub decreases-run_branches : goal.decreases-run_branches
 decreases-run_branches g l = 65536 * l.self.now.units + 41100
 
+abbrev pub decreases-run_inner : goal.decreases-run_inner
+decreases-run_inner g l = 65536 * l.self.now.units + 41500
+
+abbrev pub decreases-body_of : goal.decreases-body_of
+decreases-body_of g l = 65536 * l.self.now.units + 41200
+
+abbrev pub decreases-body_inside : goal.decreases-body_inside
+decreases-body_inside g l = 65536 * l.self.now.units + 41100
+
+abbrev pub decreases-script_at_level : goal.decreases-script_at_level
+decreases-script_at_level g l = 65536 * l.self.now.units + 41200
+
 abbrev pub decreases-around : goal.decreases-around
 decreases-around g l = 65536 * l.self.now.units + 4 * l.left + 42000
 
