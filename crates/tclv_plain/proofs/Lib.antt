@@ -6,3 +6,9 @@ pub mod CellLemmas
 pub mod ListRowLemmas
 pub mod LoopRowLemmas
 pub mod PlainLemmas
+pub mod LinkLemmas
+pub mod SubcommandLemmas
+pub mod UnsetLemmas
+pub mod InfoLemmas
+pub mod ArrayLemmas
+pub mod ElementLemmas

@@ -4,6 +4,11 @@ pub mod RunRows
 pub mod DataRows
 pub mod CellRows
 pub mod CellSteps
+pub mod UnsetRows
+pub mod Subcommands
+pub mod InfoRows
+pub mod ArrayRows
+pub mod LinkRows
 pub mod ListRows
 pub mod LoopRows
 pub mod PlainRows

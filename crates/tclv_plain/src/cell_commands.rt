@@ -65,8 +65,8 @@ fn run_cell(
     }
 }
 
-// A copy of the text of a place, which is made.
-fn copied(values: &Values, at: At) -> Result<Text, NoMemory>
+/// A copy of the text of a place, which is made.
+pub fn copied(values: &Values, at: At) -> Result<Text, NoMemory>
     requires place { HasPlace values.now.store at }
     requires made { IsMade values.now.store at }
     ensures { IfOk result (λ text. text ≡ text_at values.now.store at) }

@@ -4,12 +4,16 @@ ghost use Rattle.tclv_value.specs.Stacks.{top, under};
 ghost use Rattle.tclv_engine.specs.Answers.{AnswersOver, Caused, PushesResult, as_result, outer};
 ghost use Rattle.tclv_plain.specs.PlainRows as spec;
 
+use crate::array_commands::cmd_array;
 use crate::cell_commands::{CellCommand, cmd_cell};
 use crate::channel_commands::cmd_puts;
 use crate::data_commands::{DataCommand, cmd_data};
+use crate::info_commands::cmd_info;
+use crate::link_commands::{cmd_global, cmd_upvar};
 use crate::list_commands::cmd_lassign;
 use crate::loop_commands::{cmd_break, cmd_continue};
 use crate::run_commands::cmd_exit;
+use crate::unset_commands::cmd_unset;
 use crate::variable_commands::{cmd_append, cmd_incr, cmd_set};
 use tclv_engine::{End, Machine};
 use tclv_io::Outside;
@@ -18,6 +22,7 @@ use tclv_io::Outside;
 #[derive(Clone, Copy, Debug, PartialEq, Eq)]
 pub enum PlainCommand {
     Append,
+    Array,
     Break,
     /// A data command that is handed a variable.
     Cell(CellCommand),
@@ -25,10 +30,14 @@ pub enum PlainCommand {
     /// A data command.
     Data(DataCommand),
     Exit,
+    Global,
     Incr,
+    Info,
     Lassign,
     Puts,
     Set,
+    Unset,
+    Upvar,
 }
 
 /// Runs a command: its words are the top `n` texts of the stack, the word of the call lowest, and the
@@ -50,14 +59,19 @@ pub fn run_plain<W, O: Outside>(
 {
     match command {
         PlainCommand::Append => cmd_append(machine, n),
+        PlainCommand::Array => cmd_array(machine, n),
         PlainCommand::Break => cmd_break(machine, n),
         PlainCommand::Cell(command) => cmd_cell(machine, command, n),
         PlainCommand::Continue => cmd_continue(machine, n),
         PlainCommand::Data(command) => cmd_data(machine, command, n),
         PlainCommand::Exit => cmd_exit(machine, n),
+        PlainCommand::Global => cmd_global(machine, n),
         PlainCommand::Incr => cmd_incr(machine, n),
+        PlainCommand::Info => cmd_info(machine, n),
         PlainCommand::Lassign => cmd_lassign(machine, n),
         PlainCommand::Puts => cmd_puts(machine, n, out),
         PlainCommand::Set => cmd_set(machine, n),
+        PlainCommand::Unset => cmd_unset(machine, n),
+        PlainCommand::Upvar => cmd_upvar(machine, n),
     }
 }

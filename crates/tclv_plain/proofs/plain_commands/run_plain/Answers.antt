@@ -55,3 +55,28 @@ pub returns-in-Set-clause-answer : goal.returns-in-Set-clause-answer
 returns-in-Set-clause-answer g c w told =
     runs_as (ap (λ b. plain_row b (top c.args.n c.args.machine.now.values.store.stack) (state_of c.args.machine.now w)) (sym c.in-Set.is))
     (c.cmd_set.ensures.answer (outer (g.O.Outside.told c.args.out.now) (g.O.Outside.torn c.args.out.now)) w told)
+
+pub returns-in-Global-clause-answer : goal.returns-in-Global-clause-answer
+returns-in-Global-clause-answer g c w told =
+    runs_as (ap (λ b. plain_row b (top c.args.n c.args.machine.now.values.store.stack) (state_of c.args.machine.now w)) (sym c.in-Global.is))
+    (c.cmd_global.ensures.answer (outer (g.O.Outside.told c.args.out.now) (g.O.Outside.torn c.args.out.now)) w told)
+
+pub returns-in-Upvar-clause-answer : goal.returns-in-Upvar-clause-answer
+returns-in-Upvar-clause-answer g c w told =
+    runs_as (ap (λ b. plain_row b (top c.args.n c.args.machine.now.values.store.stack) (state_of c.args.machine.now w)) (sym c.in-Upvar.is))
+    (c.cmd_upvar.ensures.answer (outer (g.O.Outside.told c.args.out.now) (g.O.Outside.torn c.args.out.now)) w told)
+
+pub returns-in-Array-clause-answer : goal.returns-in-Array-clause-answer
+returns-in-Array-clause-answer g c w told =
+    runs_as (ap (λ b. plain_row b (top c.args.n c.args.machine.now.values.store.stack) (state_of c.args.machine.now w)) (sym c.in-Array.is))
+    (c.cmd_array.ensures.answer (outer (g.O.Outside.told c.args.out.now) (g.O.Outside.torn c.args.out.now)) w told)
+
+pub returns-in-Info-clause-answer : goal.returns-in-Info-clause-answer
+returns-in-Info-clause-answer g c w told =
+    runs_as (ap (λ b. plain_row b (top c.args.n c.args.machine.now.values.store.stack) (state_of c.args.machine.now w)) (sym c.in-Info.is))
+    (c.cmd_info.ensures.answer (outer (g.O.Outside.told c.args.out.now) (g.O.Outside.torn c.args.out.now)) w told)
+
+pub returns-in-Unset-clause-answer : goal.returns-in-Unset-clause-answer
+returns-in-Unset-clause-answer g c w told =
+    runs_as (ap (λ b. plain_row b (top c.args.n c.args.machine.now.values.store.stack) (state_of c.args.machine.now w)) (sym c.in-Unset.is))
+    (c.cmd_unset.ensures.answer (outer (g.O.Outside.told c.args.out.now) (g.O.Outside.torn c.args.out.now)) w told)
