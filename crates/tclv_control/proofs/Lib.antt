@@ -1,5 +1,6 @@
 pub mod PlanLemmas
 pub mod WhileLemmas
+pub mod CallLemmas
 pub mod EachLemmas
 pub mod ScriptLemmas
 pub mod SwitchLemmas
@@ -10,3 +11,5 @@ pub mod ErrorLemmas
 pub mod CatchLemmas
 pub mod ReturnLemmas
 pub mod TryLemmas
+pub mod LevelLemmas
+pub mod UplevelLemmas

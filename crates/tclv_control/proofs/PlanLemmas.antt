@@ -53,6 +53,8 @@ above-on base mid now h k = record { kept = take-under base mid now h.some k.kep
 plan-on : {K : Type 0} (base mid : List Text) (p : Plan K) (now : List Text) → Keeps base mid → PlanOver mid p now → PlanOver base p now
 plan-on base mid (plan.Finished kept) now h k = above-on base mid now h k
 plan-on base mid (plan.Run at behind) now h k = (keeps_on base mid now h k.0, k.1)
+plan-on base mid (plan.Called def behind) now h k = (keeps_on base mid now h k.0, k.1)
+plan-on base mid (plan.AtLevel level at behind) now h k = (keeps_on base mid now h k.0, k.1)
 plan-on base mid (plan.Value at) now h k = (keeps_on base mid now h k.0, k.1)
 plan-on base mid (plan.Choice branches) now h k = (keeps_on base mid now h k.0, k.1)
 plan-on base mid (plan.Tested test body) now h k = (keeps_on base mid now h k.0, k.1)

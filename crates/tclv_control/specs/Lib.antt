@@ -4,6 +4,8 @@ pub mod ScriptRows
 pub mod SwitchRows
 pub mod IfRows
 pub mod IfSteps
+pub mod CallRows
+pub mod LevelRows
 pub mod ControlRows
 pub mod Outcomes
 pub mod OutcomeSteps
@@ -17,5 +19,6 @@ pub mod CatchRows
 pub mod CatchSteps
 pub mod TryRows
 pub mod TrySteps
+pub mod Levels
 pub mod Finishing
 pub mod CodeRows

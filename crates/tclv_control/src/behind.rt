@@ -7,6 +7,7 @@ ghost use Rattle.tclv_control.specs.Finishing.{finish};
 ghost use Rattle.tclv_control.specs.HandingSteps.{handed_on};
 
 use crate::catch_plans::finish_catch;
+use crate::levels::outcome_of;
 use crate::try_plans::{finish_body, finish_handler, finish_last};
 use crate::words::Words;
 use tclv_engine::{End, Ended, Leaving, Machine, Plan};
@@ -28,6 +29,8 @@ pub enum Behind {
     /// It was the script of a `try` that runs in the end: where it is ok, the outcome is this code with
     /// its result and its options, else its own.
     Finally(Code, Text, Options),
+    /// It was the body of a procedure, whose outcome is one level down.
+    Procedure,
 }
 
 /// Hands on how a script ended, as the command's outcome.
@@ -61,5 +64,6 @@ pub fn finish_behind<W>(
         Behind::Body(call, words) => finish_body(machine, &call, &words, ended),
         Behind::Handler(finally) => finish_handler(machine, finally, ended),
         Behind::Finally(code, text, options) => finish_last(machine, code, text, options, ended),
+        Behind::Procedure => outcome_of(machine, ended),
     }
 }

@@ -7,6 +7,7 @@ ghost use Rattle.tclv_control.specs.ControlRows.{control_wanted};
 
 use crate::each_plans::{plan_foreach, plan_lmap};
 use crate::if_plans::plan_if;
+use crate::level_plans::plan_uplevel;
 use crate::script_plans::{plan_eval, plan_expr};
 use crate::switch_plans::plan_switch;
 use crate::while_plans::{plan_for, plan_while};
@@ -29,6 +30,8 @@ pub enum ControlCommand {
     Lmap,
     /// `switch ?option ...? string ?pattern body ...? ?default body?`
     Switch,
+    /// `uplevel ?level? command ?arg ...?`
+    Uplevel,
     /// `while test command`
     While,
 }
@@ -58,6 +61,7 @@ pub fn plan_control<W, K: Drop>(
         ControlCommand::If => plan_if(machine, n),
         ControlCommand::Lmap => plan_lmap(machine, n),
         ControlCommand::Switch => plan_switch(machine, n, hand_on),
+        ControlCommand::Uplevel => plan_uplevel(machine, n, hand_on),
         ControlCommand::While => plan_while(machine, n),
     }
 }

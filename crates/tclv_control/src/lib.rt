@@ -13,12 +13,15 @@
 #![tactic(auto)]
 
 mod behind;
+mod call_plans;
 mod catch_plans;
 mod codes;
 mod control;
 mod each_plans;
 mod error_plans;
 mod if_plans;
+mod level_plans;
+mod levels;
 mod misuse;
 mod outcomes;
 mod return_plans;
@@ -29,12 +32,15 @@ mod while_plans;
 mod words;
 
 pub use behind::{Behind, finish_behind, hand_on};
+pub use call_plans::plan_call;
 pub use catch_plans::{finish_catch, plan_catch};
 pub use codes::{CodeCommand, plan_code};
 pub use control::{ControlCommand, plan_control};
 pub use each_plans::{plan_foreach, plan_lmap};
 pub use error_plans::{plan_error, plan_throw};
 pub use if_plans::plan_if;
+pub use level_plans::plan_uplevel;
+pub use levels::outcome_of;
 pub use outcomes::{carried_options, code_of, options_of};
 pub use return_plans::plan_return;
 pub use script_plans::{plan_eval, plan_expr};

@@ -50,7 +50,7 @@ fn asked<W>(machine: &mut Machine<W>, n: usize) -> Result<Ret, End>
 // ---- the options
 
 // The decimal text of a level.
-fn level_text<W>(machine: &mut Machine<W>, level: u64) -> Result<Text, NoMemory>
+pub(crate) fn level_text<W>(machine: &mut Machine<W>, level: u64) -> Result<Text, NoMemory>
     ensures text { IfOk result (λ text. text ≡ whole_text (pos level)) }
     ensures stack { OnOk result (machine.new.values.store.stack ≡ machine.old.values.store.stack) }
     ensures same { SameState machine.old machine.new }

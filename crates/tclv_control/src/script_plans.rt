@@ -12,9 +12,9 @@ use tclv_lists::cmd_concat;
 use tclv_model::Usage;
 use tclv_text::NoMemory;
 
-// Puts the text that `concat` makes of the top n texts in their place, over the word of the call.
-// Its place.
-fn join_words<W>(machine: &mut Machine<W>, n: usize) -> Result<usize, NoMemory>
+/// Puts the text that `concat` makes of the top n texts in their place, over the word of the call.
+/// Its place.
+pub fn join_words<W>(machine: &mut Machine<W>, n: usize) -> Result<usize, NoMemory>
     requires { n + 1 ≤ length machine.old.values.store.stack }
     ensures place { IfOk result (λ at. at ≡ length machine.old.values.store.stack - n) }
     ensures joined { let stack = machine.old.values.store.stack in

@@ -38,3 +38,8 @@ pub returns-in-Finally-clause-answer : goal.returns-in-Finally-clause-answer
 returns-in-Finally-clause-answer g c here w told =
     runs_as (ap (λ b. finish b (concluded c.args.ended (last_of c.args.machine.now.values.store.stack)) (state_of c.args.machine.now w)) (sym c.in-Finally.is))
     (c.finish_last.ensures.answer here w told)
+
+pub returns-in-Procedure-clause-answer : goal.returns-in-Procedure-clause-answer
+returns-in-Procedure-clause-answer g c here w told =
+    runs_as (ap (λ b. finish b (concluded c.args.ended (last_of c.args.machine.now.values.store.stack)) (state_of c.args.machine.now w)) (sym c.in-Procedure.is))
+    (c.outcome_of.ensures.answer here w told)

@@ -44,3 +44,8 @@ pub returns-in-While-clause-answer : goal.returns-in-While-clause-answer
 returns-in-While-clause-answer g c here w told =
     runs_as (ap (λ x. control_wanted c.args.hand_on x (top c.args.n c.args.machine.now.values.store.stack) (state_of c.args.machine.now w)) (sym c.in-While.is))
     (c.plan_while.ensures.answer here w told)
+
+pub returns-in-Uplevel-clause-answer : goal.returns-in-Uplevel-clause-answer
+returns-in-Uplevel-clause-answer g c here w told =
+    runs_as (ap (λ x. control_wanted c.args.hand_on x (top c.args.n c.args.machine.now.values.store.stack) (state_of c.args.machine.now w)) (sym c.in-Uplevel.is))
+    (c.plan_uplevel.ensures.answer here w told)
