@@ -6,22 +6,24 @@ use Rattle.std.specs.FinMap.{get, get-empty, get-insert}
 use Rattle.std.specs.Cmp.Lexicographic.{nat_list_cmp_total}
 use Rattle.std.proofs.lemmas.Map.Text.{is_eq-slice_cmp}
 use Rattle.tclv_names.specs.Keyed.{by_text}
+use Rattle.std.specs.Option.{option_map}
 use Rattle.tclv_interp.specs.declared.builtins.CommandTarget.{CommandTarget}
+use Rattle.tclv_interp.specs.declared.builtins.Target.TheVariants.{Builtin}
 use Rattle.tclv_interp.specs.declared.builtins.TheConstants.{BUILTINS}
 use Rattle.tclv_interp.specs.Builtins.{built_in, named_in, commands_of, StandsForBuiltin}
 
 -- ---- each name stands for its command
 
-in_branch : (b : Bool) (x : CommandTarget) (o : Option CommandTarget) → cond b (Some x) o ≡ (if b then Some x else o)
+in_branch : (b : Bool) (x : CommandTarget) (o : Option CommandTarget) → cond b (Some (Builtin x)) (option_map Builtin o) ≡ option_map Builtin (if b then Some x else o)
 in_branch true x o = refl
 in_branch false x o = refl
 
-has_named : (ps : List (List ℕ × CommandTarget)) (name : List ℕ) → get (commands_of (λ n. n) ps) name ≡ named_in ps name
+has_named : (ps : List (List ℕ × CommandTarget)) (name : List ℕ) → get (commands_of (λ n. n) ps) name ≡ option_map Builtin (named_in ps name)
 has_named [] name = get-empty by_text name
 has_named (p ∷ ps) name =
-    get-insert nat_list_cmp_total (commands_of (λ n. n) ps) p.0 p.1 name
-    ∙ ap (λ b. cond b (Some p.1) (get (commands_of (λ n. n) ps) name)) (is_eq-slice_cmp name p.0)
-    ∙ ap (λ o. cond (bytes_eq name p.0) (Some p.1) o) (has_named ps name)
+    get-insert nat_list_cmp_total (commands_of (λ n. n) ps) p.0 (Builtin p.1) name
+    ∙ ap (λ b. cond b (Some (Builtin p.1)) (get (commands_of (λ n. n) ps) name)) (is_eq-slice_cmp name p.0)
+    ∙ ap (λ o. cond (bytes_eq name p.0) (Some (Builtin p.1)) o) (has_named ps name)
     ∙ in_branch (bytes_eq name p.0) p.1 (named_in ps name)
 
 pub stands_for : (name : List ℕ) → StandsForBuiltin name

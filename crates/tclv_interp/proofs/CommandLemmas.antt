@@ -8,7 +8,7 @@ use Rattle.tclv_reply.specs.Names.{is_qualified}
 use Rattle.tclv_engine.specs.Names.{bytes_of}
 use Rattle.tclv_engine.specs.Variables.{not_built}
 use Rattle.std.specs.FinMap.{get}
-use Rattle.tclv_interp.specs.declared.builtins.CommandTarget.{CommandTarget}
+use Rattle.tclv_interp.specs.declared.builtins.Target.{Target}
 use Rattle.tclv_interp.specs.Builtins.{resolved, resolve}
 use Rattle.tclv_interp.specs.Commands.{State, plan_of, wanted}
 
@@ -16,7 +16,7 @@ pub resolve-qualified : (bs : List ℕ) (name : Text) (st : State) → bs ≡ by
 resolve-qualified bs name st e h =
     let t : is_qualified (bytes_of name) ≡ true = sym (ap is_qualified e) ∙ h in rw t
 
-pub resolve-plain : (xs ys : List ℕ) (name : Text) (st : State) (o : Option CommandTarget) → xs ≡ bytes_of name → ys ≡ bytes_of name → is_qualified xs ≡ false → get (own_in st).commands ys ≡ o → resolved o name st ≡ resolve name st
+pub resolve-plain : (xs ys : List ℕ) (name : Text) (st : State) (o : Option Target) → xs ≡ bytes_of name → ys ≡ bytes_of name → is_qualified xs ≡ false → get (own_in st).commands ys ≡ o → resolved o name st ≡ resolve name st
 resolve-plain xs ys name st o e f h k =
     let t : is_qualified (bytes_of name) ≡ false = sym (ap is_qualified e) ∙ h in
     let b : get (own_in st).commands (bytes_of name) ≡ o = sym (ap (λ x. get (own_in st).commands x) f) ∙ k in

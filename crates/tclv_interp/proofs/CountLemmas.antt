@@ -6,17 +6,19 @@ use Rattle.tclv_model.specs.declared.outcomes.Code.TheVariants as code
 use Rattle.tclv_model.specs.declared.outcomes.Pair.{Pair}
 use Rattle.tclv_engine.specs.Results.{Ending, Done, Left, Budget, Exit, Outcome, go_on, bind, plain, code_text}
 use Rattle.tclv_engine.specs.State.{Text}
-use Rattle.tclv_engine.specs.Plans.{Conclusion, Wanted, Finished, Run, Value, Choice, Tested, Started, Each}
+use Rattle.tclv_engine.specs.Plans.{Inner, Here, There, Conclusion, Wanted, Finished, Run, Called, AtLevel, Value, Choice, Tested, Started, Each}
+use Rattle.tclv_engine.specs.Plans as plans
 use Rattle.tclv_control.specs.declared.behind.Behind.{Behind}
-use Rattle.tclv_control.specs.declared.behind.Behind.TheVariants.{HandOn, Catch, Body, Handler, Finally}
+use Rattle.tclv_control.specs.declared.behind.Behind.TheVariants.{HandOn, Catch, Body, Handler, Finally, Procedure}
 use Rattle.tclv_ctl.specs.Handlers.{Handler as TryHandler, handlers_of, handler_for}
 use Rattle.tclv_engine.specs.DataAnswers.{of_answer}
 use Rattle.tclv_control.specs.CatchRows.{note, caught}
 use Rattle.tclv_control.specs.TryRows.{at_last, error_code_of, handled, note_both, settled, started_by, unless}
 use Rattle.tclv_control.specs.Finishing.{finish}
 use Rattle.tclv_control.specs.HandingOn.{hand_on}
+use Rattle.tclv_control.specs.Levels.{leveled, level_of, returned_from, stored_code, with_level}
 use Rattle.tclv_control.specs.Outcomes.{option_words}
-use Rattle.tclv_engine.specs.Evaluation.{steady, concluding, text, around, perform, perform_by}
+use Rattle.tclv_engine.specs.Evaluation.{steady, concluding, inner, around, perform, perform_by}
 use Rattle.tclv_interp.specs.Commands.{Evaluator, State, Res, shell}
 use Rattle.tclv_interp.specs.Counts.{ThreeAreEnough}
 
@@ -44,7 +46,11 @@ IsWithin P (Exit n) = Unit {0}
 -- What is wanted leads to so many scripts at most, however each of them ends.
 abbrev Within : ℕ → Wanted Behind → Type 0
 Within zero (Run t b) = ⊥
+Within zero (Called d texts b) = ⊥
+Within zero (AtLevel level t b) = ⊥
 Within (suc n) (Run t b) = (e : Conclusion) (st : State) → IsWithin (Within n) (finish b e st).ending
+Within (suc n) (Called d texts b) = (e : Conclusion) (st : State) → IsWithin (Within n) (finish b e st).ending
+Within (suc n) (AtLevel level t b) = (e : Conclusion) (st : State) → IsWithin (Within n) (finish b e st).ending
 Within n (Finished o) = Unit {0}
 Within n (Value t) = Unit {0}
 Within n (Choice list last) = Unit {0}
@@ -52,28 +58,44 @@ Within n (Tested test body) = Unit {0}
 Within n (Started start test next body) = Unit {0}
 Within n (Each groups body keep) = Unit {0}
 
-within-next : (P : Wanted Behind → Type 0) (run run' : Text → Behind → State → Res Outcome) (ev : Evaluator) → ((p : Wanted Behind) → P p → (st : State) → perform_by ev run p st ≡ perform_by ev run' p st) →
+within-next : (P : Wanted Behind → Type 0) (run run' : Inner → Behind → State → Res Outcome) (ev : Evaluator) → ((p : Wanted Behind) → P p → (st : State) → perform_by ev run p st ≡ perform_by ev run' p st) →
     (e : Ending (Wanted Behind)) (st : State) → IsWithin P e → go_on e st (λ p s. perform_by ev run p s) ≡ go_on e st (λ p s. perform_by ev run' p s)
 within-next P run run' ev same (Done p) st h = same p h st
 within-next P run run' ev same (Left c t os) st h = refl
 within-next P run run' ev same Budget st h = refl
 within-next P run run' ev same (Exit n) st h = refl
 
-within-same : (P : Wanted Behind → Type 0) (run run' : Text → Behind → State → Res Outcome) (ev : Evaluator) → ((p : Wanted Behind) → P p → (st : State) → perform_by ev run p st ≡ perform_by ev run' p st) →
+within-same : (P : Wanted Behind → Type 0) (run run' : Inner → Behind → State → Res Outcome) (ev : Evaluator) → ((p : Wanted Behind) → P p → (st : State) → perform_by ev run p st ≡ perform_by ev run' p st) →
     (m : Res (Wanted Behind)) → IsWithin P m.ending → bind m (λ p s. perform_by ev run p s) ≡ bind m (λ p s. perform_by ev run' p s)
 unfolding bind
 within-same P run run' ev same m h =
     let put : Res _ → Res _ = λ r. record r { events = m.events ++ r.events } in
     ap put (within-next P run run' ev same m.ending m.after h)
 
+-- two bounds by one higher give the same of what is run, where they give the same of what stands behind it
+run-same : (n k j : ℕ) (ev : Evaluator) → ((p : Wanted Behind) → Within n p → (st : State) → perform_by ev (around k shell ev) p st ≡ perform_by ev (around j shell ev) p st) →
+    (i : Inner) (b : Behind) → ((e : Conclusion) (st : State) → IsWithin (Within n) (finish b e st).ending) → (st : State) → around (suc k) shell ev i b st ≡ around (suc j) shell ev i b st
+run-same n k j ev same i b w st =
+    bind-same (concluding (inner ev i st)) _ _
+    (λ e s. within-same (Within n) (around k shell ev) (around j shell ev) ev same (steady (finish b e) s) (w e s))
+
 -- every bound that is at least so many gives the same
 same-at : (n left right : ℕ) (ev : Evaluator) → n ≤ left → n ≤ right → (p : Wanted Behind) → Within n p → (st : State) → perform_by ev (around left shell ev) p st ≡ perform_by ev (around right shell ev) p st
 same-at zero left right ev l r (Run t b) w st = absurd w
+same-at zero left right ev l r (Called d texts b) w st = absurd w
+same-at zero left right ev l r (AtLevel level t b) w st = absurd w
 same-at (suc n) zero right ev l r (Run t b) w st = absurd (omega (arith, l))
+same-at (suc n) zero right ev l r (Called d texts b) w st = absurd (omega (arith, l))
+same-at (suc n) zero right ev l r (AtLevel level t b) w st = absurd (omega (arith, l))
 same-at (suc n) (suc k) zero ev l r (Run t b) w st = absurd (omega (arith, r))
+same-at (suc n) (suc k) zero ev l r (Called d texts b) w st = absurd (omega (arith, r))
+same-at (suc n) (suc k) zero ev l r (AtLevel level t b) w st = absurd (omega (arith, r))
 same-at (suc n) (suc k) (suc j) ev l r (Run t b) w st =
-    bind-same (concluding (text ev t st)) _ _
-    (λ e s. within-same (Within n) (around k shell ev) (around j shell ev) ev (λ p h s1. same-at n k j ev (omega (arith, l)) (omega (arith, r)) p h s1) (steady (finish b e) s) (w e s))
+    run-same n k j ev (λ p h s1. same-at n k j ev (omega (arith, l)) (omega (arith, r)) p h s1) (Here t) b w st
+same-at (suc n) (suc k) (suc j) ev l r (Called d texts b) w st =
+    run-same n k j ev (λ p h s1. same-at n k j ev (omega (arith, l)) (omega (arith, r)) p h s1) (plans.Body d texts) b w st
+same-at (suc n) (suc k) (suc j) ev l r (AtLevel level t b) w st =
+    run-same n k j ev (λ p h s1. same-at n k j ev (omega (arith, l)) (omega (arith, r)) p h s1) (There level t) b w st
 same-at n left right ev l r (Finished o) w st = refl
 same-at n left right ev l r (Value t) w st = refl
 same-at n left right ev l r (Choice list last) w st = refl
@@ -130,6 +152,19 @@ handled-within : (n : ℕ) (found : Option TryHandler) (finally : Option Text) (
 handled-within n None finally e st = last-within (suc n) finally e st
 handled-within n (Some h) finally e st = bind-within (Within (suc (suc n))) (settled (note_both h.names e.text e.options st)) _ (λ left s. started-within n h.script finally left s)
 
+returned-within : (k : ℕ) (n : ℕ) (t : Text) (os : List Pair) (st : State) → IsWithin (Within k) (returned_from n t os st).ending
+returned-within k zero t os st = finished-within k (plain t)
+returned-within k (suc zero) t os st = handed-within k (stored_code os) t (with_level 0 os) st
+returned-within k (suc (suc n)) t os st = tt
+
+leveled-within : (k : ℕ) (c : Code) (t : Text) (os : List Pair) (st : State) → IsWithin (Within k) (leveled c t os st).ending
+leveled-within k code.Ok t os st = handed-within k code.Ok t os st
+leveled-within k code.Error t os st = handed-within k code.Error t os st
+leveled-within k code.Return t os st = returned-within k (level_of os) t os st
+leveled-within k code.Break t os st = tt
+leveled-within k code.Continue t os st = tt
+leveled-within k (code.Other n) t os st = handed-within k (code.Other n) t os st
+
 -- behind each script two more at most
 two-behind : (b : Behind) (e : Conclusion) (st : State) → IsWithin (Within 2) (finish b e st).ending
 two-behind HandOn e st = handed-within 2 e.code e.text e.options st
@@ -138,9 +173,12 @@ two-behind (Body call words) e st =
     bind-within (Within 2) (of_answer (handlers_of call words) st) _ (λ said s. handled-within 0 (handler_for e.code (error_code_of e.options) said.handlers) said.finally e s)
 two-behind (Handler finally) e st = last-within 1 finally e st
 two-behind (Finally c t os) e st = unless-within 2 e.code c t os e st
+two-behind Procedure e st = leveled-within 2 e.code e.text e.options st
 
 three-within : (p : Wanted Behind) → Within 3 p
 three-within (Run t b) = two-behind b
+three-within (Called d texts b) = two-behind b
+three-within (AtLevel level t b) = two-behind b
 three-within (Finished o) = tt
 three-within (Value t) = tt
 three-within (Choice list last) = tt

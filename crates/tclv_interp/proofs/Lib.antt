@@ -3,3 +3,4 @@ pub mod BuiltinLemmas
 pub mod CommandLemmas
 pub mod CountLemmas
 pub mod InterpreterLemmas
+pub mod ProcLemmas

@@ -1,6 +1,7 @@
 -- The commands, by their names.
 use Rattle.std.specs.Prelude.{◌≡◌, ℕ, if◌then◌else◌, List, [], ◌∷◌, Option, Some, None, codes}
 use Rattle.std.specs.FinMap.{empty, insert, get}
+use Rattle.std.specs.Option.{option_map}
 use Rattle.std.specs.Str.{bytes_eq}
 use Rattle.tclv_model.specs.declared.messages.MessageId.TheVariants as message
 use Rattle.tclv_model.specs.declared.error_codes.ErrorCode.TheVariants.{UnknownCommand}
@@ -10,6 +11,10 @@ use Rattle.tclv_control.specs.declared.codes.CodeCommand.TheVariants as ending
 use Rattle.tclv_names.specs.Keyed.{Named}
 use Rattle.tclv_interp.specs.declared.builtins.CommandTarget.{CommandTarget}
 use Rattle.tclv_interp.specs.declared.builtins.CommandTarget.TheVariants as target
+use Rattle.tclv_interp.specs.declared.builtins.Target.{Target}
+use Rattle.tclv_interp.specs.declared.builtins.Target.TheVariants.{Builtin, Procedure}
+use Rattle.tclv_interp.specs.declared.builtins.Found.{Found}
+use Rattle.tclv_interp.specs.declared.builtins.Found.TheVariants as found
 use Rattle.tclv_interp.specs.declared.builtins.Tables.{Tables}
 use Rattle.tclv_engine.specs.State.{Text, State, own_in}
 use Rattle.tclv_engine.specs.Results.{Res, done, raise}
@@ -23,6 +28,7 @@ use Rattle.tclv_plain.specs.declared.cell_commands.CellCommand.TheVariants as ce
 unfoldable pub built_in : List (List ℕ × CommandTarget)
 built_in =
     (codes "append", target.Plain plain.Append) ∷
+    (codes "array", target.Plain plain.Array) ∷
     (codes "break", target.Plain plain.Break) ∷
     (codes "catch", target.Code ending.Catch) ∷
     (codes "concat", target.Plain (plain.Data command.Concat)) ∷
@@ -33,8 +39,10 @@ built_in =
     (codes "expr", target.Control control.Expr) ∷
     (codes "for", target.Control control.For) ∷
     (codes "foreach", target.Control control.Foreach) ∷
+    (codes "global", target.Plain plain.Global) ∷
     (codes "if", target.Control control.If) ∷
     (codes "incr", target.Plain plain.Incr) ∷
+    (codes "info", target.Plain plain.Info) ∷
     (codes "join", target.Plain (plain.Data command.Join)) ∷
     (codes "lappend", target.Plain (plain.Cell cell.Lappend)) ∷
     (codes "lassign", target.Plain plain.Lassign) ∷
@@ -53,6 +61,7 @@ built_in =
     (codes "lseq", target.Plain (plain.Data command.Lseq)) ∷
     (codes "lset", target.Plain (plain.Cell cell.Lset)) ∷
     (codes "lsort", target.Plain (plain.Data command.Lsort)) ∷
+    (codes "proc", target.Proc) ∷
     (codes "puts", target.Plain plain.Puts) ∷
     (codes "return", target.Code ending.Return) ∷
     (codes "set", target.Plain plain.Set) ∷
@@ -60,6 +69,9 @@ built_in =
     (codes "switch", target.Control control.Switch) ∷
     (codes "throw", target.Code ending.Throw) ∷
     (codes "try", target.Code ending.Try) ∷
+    (codes "unset", target.Plain plain.Unset) ∷
+    (codes "uplevel", target.Control control.Uplevel) ∷
+    (codes "upvar", target.Plain plain.Upvar) ∷
     (codes "while", target.Control control.While) ∷
     []
 
@@ -74,9 +86,9 @@ builtin_of name = named_in built_in name
 -- ---- what names stand for
 
 -- a table in which each of these commands has its name; of several of one name the first counts
-abbrev pub commands_of : {K : Type 0} → (K → List ℕ) → List (K × CommandTarget) → Named CommandTarget
+abbrev pub commands_of : {K : Type 0} → (K → List ℕ) → List (K × CommandTarget) → Named Target
 commands_of bytes [] = empty
-commands_of bytes (p ∷ ps) = insert (commands_of bytes ps) (bytes p.0) p.1
+commands_of bytes (p ∷ ps) = insert (commands_of bytes ps) (bytes p.0) (Builtin p.1)
 
 -- the tables of a new interpreter
 abbrev pub new_tables : Tables
@@ -84,12 +96,22 @@ new_tables = record { commands = commands_of (λ name. name) built_in }
 
 -- There a name stands for the command that is built in under it, and for nothing where there is none.
 abbrev pub StandsForBuiltin : List ℕ → Type 0
-StandsForBuiltin name = get new_tables.commands name ≡ builtin_of name
+StandsForBuiltin name = get new_tables.commands name ≡ option_map Builtin (builtin_of name)
 
 -- A name stands for its target. Qualified names aren't built yet.
-abbrev pub resolved : Option CommandTarget → Text → State Tables → Res Tables CommandTarget
+abbrev pub resolved : Option Target → Text → State Tables → Res Tables Target
 resolved (Some t) name st = done t st
 resolved None name st = raise message.UnknownCommand name [] UnknownCommand st
 
-abbrev pub resolve : Text → State Tables → Res Tables CommandTarget
+abbrev pub resolve : Text → State Tables → Res Tables Target
 resolve name st = if is_qualified (bytes_of name) then not_built st else resolved (get (own_in st).commands (bytes_of name)) name st
+
+-- ---- in the code
+
+-- what the code found is what the name stands for
+abbrev pub target_of : Found → Target
+target_of (found.Builtin t) = Builtin t
+target_of (found.Procedure def) = Procedure def.value
+
+abbrev pub as_found : Target → Found → List Text → Type 0
+as_found t f stack = target_of f ≡ t

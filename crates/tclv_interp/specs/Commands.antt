@@ -2,7 +2,7 @@
 use Rattle.std.specs.Prelude.{List, [], ◌∷◌}
 use Rattle.tclv_interp.specs.declared.builtins.Tables.{Tables}
 use Rattle.tclv_control.specs.declared.behind.Behind.{Behind}
-use Rattle.tclv_control.specs.declared.behind.Behind.TheVariants.{HandOn}
+use Rattle.tclv_control.specs.declared.behind.Behind.TheVariants.{HandOn, Procedure as BehindBody}
 use Rattle.tclv_interp.specs.declared.builtins.CommandTarget.{CommandTarget}
 use Rattle.tclv_interp.specs.declared.builtins.CommandTarget.TheVariants as target
 use Rattle.tclv_engine.specs.State.{Text}
@@ -17,7 +17,11 @@ use Rattle.tclv_plain.specs.PlainRows.{plain_row}
 use Rattle.tclv_control.specs.CodeRows.{code_wanted}
 use Rattle.tclv_control.specs.ControlRows.{control_wanted}
 use Rattle.tclv_control.specs.Finishing.{finish}
+use Rattle.tclv_control.specs.CallRows.{wanted_call}
+use Rattle.tclv_interp.specs.declared.builtins.Target.{Target}
+use Rattle.tclv_interp.specs.declared.builtins.Target.TheVariants.{Builtin, Procedure}
 use Rattle.tclv_interp.specs.Builtins.{resolve}
+use Rattle.tclv_interp.specs.ProcRows.{row_proc}
 
 -- the state of a script, and what a computation gives
 abbrev pub State : Type 0
@@ -37,11 +41,20 @@ finished r = bind r (λ o st. done (Finished o) st)
 abbrev pub wanted_plain : PlainCommand → List Text → State → Res (Wanted Behind)
 wanted_plain c words st = finished (plain_row c words st)
 
--- what the target of a name wants: a command, by its row
-abbrev pub wanted : CommandTarget → List Text → State → Res (Wanted Behind)
-wanted (target.Plain c) words st = wanted_plain c words st
-wanted (target.Control c) words st = control_wanted HandOn c words st
-wanted (target.Code c) words st = code_wanted c words st
+abbrev pub wanted_proc : List Text → State → Res (Wanted Behind)
+wanted_proc words st = finished (row_proc words st)
+
+-- what a command wants that is built in, by its row
+abbrev pub wanted_builtin : CommandTarget → List Text → State → Res (Wanted Behind)
+wanted_builtin (target.Plain c) words st = wanted_plain c words st
+wanted_builtin (target.Control c) words st = control_wanted HandOn c words st
+wanted_builtin (target.Code c) words st = code_wanted c words st
+wanted_builtin target.Proc words st = wanted_proc words st
+
+-- what the target of a name wants
+abbrev pub wanted : Target → List Text → State → Res (Wanted Behind)
+wanted (Builtin c) words st = wanted_builtin c words st
+wanted (Procedure d) words st = wanted_call d BehindBody words st
 
 -- The first of the words names the command.
 unfoldable pub plan_of : List Text → State → Res (Wanted Behind)

@@ -1,4 +1,6 @@
+pub mod Procedures
 pub mod Builtins
+pub mod ProcRows
 pub mod Commands
 pub mod Counts
 pub mod Interpreters

@@ -3,9 +3,11 @@ ghost use Rattle.std.specs.Prelude.{◌≡◌, ◌<◌, ◌≤◌, ◌-◌, [], 
 ghost use Rattle.std.specs.FinMap as finite;
 ghost use Rattle.tclv_value.specs.View.{HasPlace, IsMade, text_at};
 ghost use Rattle.tclv_interp.specs.Builtins as spec;
-ghost use Rattle.tclv_engine.specs.Answers.{Answers, KeepsStack, IsCalm, returned};
+ghost use Rattle.tclv_engine.specs.Answers.{Answers, KeepsStack, IsCalm};
 
+use crate::procedures::Shared;
 use std::alloc::Global;
+use std::rc::Rc;
 use tclv_control::{CodeCommand, ControlCommand};
 use tclv_engine::{End, Machine};
 use tclv_model::{ErrorCode, MessageId};
@@ -13,9 +15,9 @@ use tclv_names::Names;
 use tclv_plain::{CellCommand, DataCommand, PlainCommand};
 use tclv_reply::is_qualified;
 use tclv_text::NoMemory;
-use tclv_value::At;
+use tclv_value::{At, ProcDef};
 
-/// What a name of a command stands for: a command that is built in.
+/// A command that is built in.
 #[derive(Clone, Copy, Debug, PartialEq, Eq)]
 pub enum CommandTarget {
     /// One that evaluates no script.
@@ -24,18 +26,39 @@ pub enum CommandTarget {
     Control(ControlCommand),
     /// One that ends with a code, or sees how a script ended.
     Code(CodeCommand),
+    /// `proc name args body`, which changes the table of commands.
+    Proc,
+}
+
+/// What a name of a command stands for.
+#[derive(Drop)]
+pub enum Target {
+    /// A command that is built in.
+    Builtin(CommandTarget),
+    /// A procedure.
+    Procedure(Shared),
+}
+
+/// What a call of a name does.
+#[derive(Drop)]
+pub enum Found {
+    /// A command that is built in.
+    Builtin(CommandTarget),
+    /// A procedure.
+    Procedure(Rc<ProcDef>),
 }
 
 /// The tables that the commands keep of their own.
 #[derive(Drop)]
 pub struct Tables {
     /// What each name of a command stands for.
-    pub commands: Names<CommandTarget>,
+    pub commands: Names<Target>,
 }
 
 /// The commands that are built in, by their names.
-const BUILTINS: [(&[u8], CommandTarget); 39] = [
+const BUILTINS: [(&[u8], CommandTarget); 46] = [
     (b"append", CommandTarget::Plain(PlainCommand::Append)),
+    (b"array", CommandTarget::Plain(PlainCommand::Array)),
     (b"break", CommandTarget::Plain(PlainCommand::Break)),
     (b"catch", CommandTarget::Code(CodeCommand::Catch)),
     (
@@ -49,8 +72,10 @@ const BUILTINS: [(&[u8], CommandTarget); 39] = [
     (b"expr", CommandTarget::Control(ControlCommand::Expr)),
     (b"for", CommandTarget::Control(ControlCommand::For)),
     (b"foreach", CommandTarget::Control(ControlCommand::Foreach)),
+    (b"global", CommandTarget::Plain(PlainCommand::Global)),
     (b"if", CommandTarget::Control(ControlCommand::If)),
     (b"incr", CommandTarget::Plain(PlainCommand::Incr)),
+    (b"info", CommandTarget::Plain(PlainCommand::Info)),
     (
         b"join",
         CommandTarget::Plain(PlainCommand::Data(DataCommand::Join)),
@@ -117,6 +142,7 @@ const BUILTINS: [(&[u8], CommandTarget); 39] = [
         b"lsort",
         CommandTarget::Plain(PlainCommand::Data(DataCommand::Lsort)),
     ),
+    (b"proc", CommandTarget::Proc),
     (b"puts", CommandTarget::Plain(PlainCommand::Puts)),
     (b"return", CommandTarget::Code(CodeCommand::Return)),
     (b"set", CommandTarget::Plain(PlainCommand::Set)),
@@ -127,13 +153,16 @@ const BUILTINS: [(&[u8], CommandTarget); 39] = [
     (b"switch", CommandTarget::Control(ControlCommand::Switch)),
     (b"throw", CommandTarget::Code(CodeCommand::Throw)),
     (b"try", CommandTarget::Code(CodeCommand::Try)),
+    (b"unset", CommandTarget::Plain(PlainCommand::Unset)),
+    (b"uplevel", CommandTarget::Control(ControlCommand::Uplevel)),
+    (b"upvar", CommandTarget::Plain(PlainCommand::Upvar)),
     (b"while", CommandTarget::Control(ControlCommand::While)),
 ];
 
 // Gives each of these commands its name, the last first.
 fn fill(
     alloc: Global,
-    commands: &mut Names<CommandTarget>,
+    commands: &mut Names<Target>,
     table: &[(&[u8], CommandTarget)],
 ) -> Result<(), NoMemory>
     requires { commands.old ≡ finite.empty }
@@ -141,7 +170,7 @@ fn fill(
 {
     for i in 0..table.len() {
         let (name, target) = table[table.len() - 1 - i];
-        commands.put(alloc, name, target)?;
+        commands.put(alloc, name, Target::Builtin(target))?;
     }
     Ok(())
 }
@@ -159,11 +188,11 @@ impl Tables {
 }
 
 /// What the lowest of the top n texts stands for, as the name of a command.
-pub fn resolve(machine: &mut Machine<Tables>, n: usize) -> Result<CommandTarget, End>
+pub fn resolve(machine: &mut Machine<Tables>, n: usize) -> Result<Found, End>
     requires words { n ≤ length machine.old.values.store.stack }
     requires some { 0 < n }
     ensures answer { Answers (spec.resolve (slice_index_or machine.old.values.store.stack
-        (length machine.old.values.store.stack - n) [])) returned machine.old result machine.new }
+        (length machine.old.values.store.stack - n) [])) spec.as_found machine.old result machine.new }
     ensures stack { KeepsStack machine.old.values.store.stack result machine.new.values.store.stack }
     ensures calm { IsCalm result }
     ensures units { machine.new.units ≡ machine.old.units }
@@ -173,11 +202,21 @@ pub fn resolve(machine: &mut Machine<Tables>, n: usize) -> Result<CommandTarget,
     resolve_made(machine, name)
 }
 
+// What a call does of a name that stands for this.
+fn called(target: &Target) -> Result<Found, NoMemory>
+    ensures { IfOk result (λ f. spec.target_of f ≡ target.now) }
+{
+    match target {
+        Target::Builtin(command) => Ok(Found::Builtin(*command)),
+        Target::Procedure(shared) => Ok(Found::Procedure(shared.share()?)),
+    }
+}
+
 // What the text of a place stands for, which is made.
-fn resolve_made(machine: &mut Machine<Tables>, name: At) -> Result<CommandTarget, End>
+fn resolve_made(machine: &mut Machine<Tables>, name: At) -> Result<Found, End>
     requires place { HasPlace machine.old.values.store name }
     requires made { IsMade machine.old.values.store name }
-    ensures answer { Answers (spec.resolve (text_at machine.old.values.store name)) returned machine.old result machine.new }
+    ensures answer { Answers (spec.resolve (text_at machine.old.values.store name)) spec.as_found machine.old result machine.new }
     ensures stack { KeepsStack machine.old.values.store.stack result machine.new.values.store.stack }
     ensures calm { IsCalm result }
     ensures units { machine.new.units ≡ machine.old.units }
@@ -185,8 +224,8 @@ fn resolve_made(machine: &mut Machine<Tables>, name: At) -> Result<CommandTarget
     if is_qualified(machine.values.lend(name)) {
         return Err(machine.not_built());
     }
-    match machine.own.commands.get(machine.values.lend(name)) {
-        Some(target) => Ok(target),
+    match machine.own.commands.lend(machine.values.lend(name)) {
+        Some(target) => Ok(called(target)?),
         None => Err(machine.raise_at(
             MessageId::UnknownCommand,
             name,

@@ -1,13 +1,15 @@
 // The commands of the shell, as the evaluation calls them.
 ghost use Rattle.std.specs.Prelude.{◌≡◌, ◌<◌, ◌≤◌, length, true};
 ghost use Rattle.tclv_value.specs.Stacks.{top, under};
-ghost use Rattle.tclv_engine.specs.Answers.{AnswersOver, Caused, Leaves, last_of, outer};
+ghost use Rattle.tclv_engine.specs.Answers.{Answers, AnswersOver, Caused, IsCalm, Leaves, last_of, outer};
 ghost use Rattle.tclv_engine.specs.Plans.{PlanOver, as_plan, concluded};
 ghost use Rattle.tclv_control.specs.Finishing.{finish};
+ghost use Rattle.tclv_interp.specs.Builtins.{target_of};
 ghost use Rattle.tclv_interp.specs.Commands as spec;
 
-use crate::builtins::{CommandTarget, Tables, resolve};
-use tclv_control::{Behind, finish_behind, plan_code, plan_control};
+use crate::builtins::{CommandTarget, Found, Tables, resolve};
+use crate::procedures::cmd_proc;
+use tclv_control::{Behind, finish_behind, plan_call, plan_code, plan_control};
 use tclv_engine::{Carried, End, Ended, Host, Machine, Plan};
 use tclv_io::Outside;
 use tclv_plain::{PlainCommand, run_plain};
@@ -34,9 +36,22 @@ fn plan_plain<O: Outside>(
     Ok(Plan::Finished(Carried::Plain))
 }
 
-// What the target of a name wants done, whose words are the top n texts.
+// What `proc` wants done: it is run, and its result is there.
+fn plan_proc(machine: &mut Machine<Tables>, n: usize) -> Result<Plan<Behind>, End>
+    requires words { n ≤ length machine.old.values.store.stack }
+    requires some { 0 < n }
+    ensures answer { Answers (spec.wanted_proc (top n machine.old.values.store.stack)) as_plan machine.old result machine.new }
+    ensures stack { Leaves (PlanOver (under n machine.old.values.store.stack)) (under n machine.old.values.store.stack) result machine.new.values.store.stack }
+    ensures calm { IsCalm result }
+    ensures units { machine.new.units ≡ machine.old.units }
+{
+    cmd_proc(machine, n)?;
+    Ok(Plan::Finished(Carried::Plain))
+}
+
+// What a command wants done that is built in, whose words are the top n texts.
 #[tactic(auto, using(tclv_engine::proofs::Binds::calm_caused))]
-fn plan_target<O: Outside>(
+fn plan_builtin<O: Outside>(
     machine: &mut Machine<Tables>,
     out: &mut O,
     target: CommandTarget,
@@ -44,7 +59,7 @@ fn plan_target<O: Outside>(
 ) -> Result<Plan<Behind>, End>
     requires words { n ≤ length machine.old.values.store.stack }
     requires some { 0 < n }
-    ensures answer { AnswersOver (spec.wanted target (top n machine.old.values.store.stack)) as_plan machine.old
+    ensures answer { AnswersOver (spec.wanted_builtin target (top n machine.old.values.store.stack)) as_plan machine.old
         (outer (O.told out.old) (O.torn out.old)) result machine.new (outer (O.told out.new) (O.torn out.new)) }
     ensures stack { Leaves (PlanOver (under n machine.old.values.store.stack)) (under n machine.old.values.store.stack) result machine.new.values.store.stack }
     ensures cause { Caused (O.faults out.old) (O.faults out.new) result }
@@ -54,6 +69,29 @@ fn plan_target<O: Outside>(
         CommandTarget::Plain(command) => plan_plain(machine, out, command, n),
         CommandTarget::Control(command) => plan_control(machine, command, n, Behind::HandOn),
         CommandTarget::Code(command) => plan_code(machine, command, n),
+        CommandTarget::Proc => plan_proc(machine, n),
+    }
+}
+
+// What the target of a name wants done, whose words are the top n texts.
+#[tactic(auto, using(tclv_engine::proofs::Binds::calm_caused))]
+fn plan_target<O: Outside>(
+    machine: &mut Machine<Tables>,
+    out: &mut O,
+    target: Found,
+    n: usize,
+) -> Result<Plan<Behind>, End>
+    requires words { n ≤ length machine.old.values.store.stack }
+    requires some { 0 < n }
+    ensures answer { AnswersOver (spec.wanted (target_of target) (top n machine.old.values.store.stack)) as_plan machine.old
+        (outer (O.told out.old) (O.torn out.old)) result machine.new (outer (O.told out.new) (O.torn out.new)) }
+    ensures stack { Leaves (PlanOver (under n machine.old.values.store.stack)) (under n machine.old.values.store.stack) result machine.new.values.store.stack }
+    ensures cause { Caused (O.faults out.old) (O.faults out.new) result }
+    ensures units { machine.new.units ≡ machine.old.units }
+{
+    match target {
+        Found::Builtin(command) => plan_builtin(machine, out, command, n),
+        Found::Procedure(def) => plan_call(machine, def, n, Behind::Procedure),
     }
 }
 

@@ -10,5 +10,6 @@ mod calls;
 mod commands;
 mod interpreters;
 pub mod laws;
+mod procedures;
 
 pub use interpreters::{Interp, Stop};
