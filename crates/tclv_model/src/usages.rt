@@ -26,12 +26,52 @@ pub enum Usage {
     ArraySize,
     /// `array unset arrayName ?pattern?`
     ArrayUnset,
+    /// `binary subcommand ?arg ...?`
+    Binary,
+    /// `binary format formatString ?arg ...?`
+    BinaryFormat,
+    /// `binary scan string formatString ?varName ...?`
+    BinaryScan,
     /// `break`
     Break,
     /// `catch script ?resultVarName? ?optionsVarName?`
     Catch,
     /// `continue`
     Continue,
+    /// `dict subcommand ?arg ...?`
+    Dict,
+    /// `dict append varName key ?value ...?`
+    DictAppend,
+    /// `dict create ?key value ...?`
+    DictCreate,
+    /// `dict exists dictionary key ?key ...?`
+    DictExists,
+    /// `dict for {keyVarName valueVarName} dictionary script`
+    DictFor,
+    /// `dict get dictionary ?key ...?`
+    DictGet,
+    /// `dict getdef dictionary ?key ...? key default`
+    DictGetdef,
+    /// `dict incr varName key ?increment?`
+    DictIncr,
+    /// `dict keys dictionary ?globPattern?`
+    DictKeys,
+    /// `dict lappend varName key ?value ...?`
+    DictLappend,
+    /// `dict map {keyVarName valueVarName} dictionary script`
+    DictMap,
+    /// `dict remove dictionary ?key ...?`
+    DictRemove,
+    /// `dict replace dictionary ?key value ...?`
+    DictReplace,
+    /// `dict set varName key ?key ...? value`
+    DictSet,
+    /// `dict size dictionary`
+    DictSize,
+    /// `dict unset varName key ?key ...?`
+    DictUnset,
+    /// `dict values dictionary ?globPattern?`
+    DictValues,
     /// `error message ?errorInfo? ?errorCode?`
     Error,
     /// `eval arg ?arg ...?`
@@ -44,6 +84,8 @@ pub enum Usage {
     For,
     /// `foreach varList list ?varList list ...? command`
     Foreach,
+    /// `format formatString ?arg ...?`
+    Format,
     /// `incr varName ?increment?`
     Incr,
     /// `info subcommand ?arg ...?`
@@ -98,10 +140,52 @@ pub enum Usage {
     Proc,
     /// `puts ?-nonewline? ?channelId? string`
     Puts,
+    /// `scan string format ?varName ...?`
+    Scan,
     /// `set varName ?newValue?`
     Set,
     /// `split string ?splitChars?`
     Split,
+    /// `string subcommand ?arg ...?`
+    String,
+    /// `string compare ?-nocase? ?-length int? string1 string2`
+    StringCompare,
+    /// `string equal ?-nocase? ?-length int? string1 string2`
+    StringEqual,
+    /// `string first needle haystack ?startIndex?`
+    StringFirst,
+    /// `string index string charIndex`
+    StringIndex,
+    /// `string insert string index insertString`
+    StringInsert,
+    /// `string is class ?-strict? string`
+    StringIs,
+    /// `string last needle haystack ?lastIndex?`
+    StringLast,
+    /// `string length string`
+    StringLength,
+    /// `string map ?-nocase? mapping string`
+    StringMap,
+    /// `string match ?-nocase? pattern string`
+    StringMatch,
+    /// `string range string first last`
+    StringRange,
+    /// `string repeat string count`
+    StringRepeat,
+    /// `string replace string first last ?string?`
+    StringReplace,
+    /// `string reverse string`
+    StringReverse,
+    /// `string tolower string`
+    StringTolower,
+    /// `string toupper string`
+    StringToupper,
+    /// `string trim string ?chars?`
+    StringTrim,
+    /// `string trimleft string ?chars?`
+    StringTrimleft,
+    /// `string trimright string ?chars?`
+    StringTrimright,
     /// `switch ?option ...? string ?pattern body ...? ?default body?`
     Switch,
     /// `throw type message`
@@ -129,15 +213,36 @@ fn usage_line(usage: Usage) -> &'static str
         Usage::ArraySet => " set arrayName list",
         Usage::ArraySize => " size arrayName",
         Usage::ArrayUnset => " unset arrayName ?pattern?",
+        Usage::Binary => " subcommand ?arg ...?",
+        Usage::BinaryFormat => " format formatString ?arg ...?",
+        Usage::BinaryScan => " scan string formatString ?varName ...?",
         Usage::Break => "",
         Usage::Catch => " script ?resultVarName? ?optionsVarName?",
         Usage::Continue => "",
+        Usage::Dict => " subcommand ?arg ...?",
+        Usage::DictAppend => " append varName key ?value ...?",
+        Usage::DictCreate => " create ?key value ...?",
+        Usage::DictExists => " exists dictionary key ?key ...?",
+        Usage::DictFor => " for {keyVarName valueVarName} dictionary script",
+        Usage::DictGet => " get dictionary ?key ...?",
+        Usage::DictGetdef => " getdef dictionary ?key ...? key default",
+        Usage::DictIncr => " incr varName key ?increment?",
+        Usage::DictKeys => " keys dictionary ?globPattern?",
+        Usage::DictLappend => " lappend varName key ?value ...?",
+        Usage::DictMap => " map {keyVarName valueVarName} dictionary script",
+        Usage::DictRemove => " remove dictionary ?key ...?",
+        Usage::DictReplace => " replace dictionary ?key value ...?",
+        Usage::DictSet => " set varName key ?key ...? value",
+        Usage::DictSize => " size dictionary",
+        Usage::DictUnset => " unset varName key ?key ...?",
+        Usage::DictValues => " values dictionary ?globPattern?",
         Usage::Error => " message ?errorInfo? ?errorCode?",
         Usage::Eval => " arg ?arg ...?",
         Usage::Exit => " ?returnCode?",
         Usage::Expr => " arg ?arg ...?",
         Usage::For => " start test next command",
         Usage::Foreach => " varList list ?varList list ...? command",
+        Usage::Format => " formatString ?arg ...?",
         Usage::Incr => " varName ?increment?",
         Usage::Info => " subcommand ?arg ...?",
         Usage::InfoArgs => " args procName",
@@ -165,8 +270,29 @@ fn usage_line(usage: Usage) -> &'static str
         Usage::Lsort => " ?option ...? list",
         Usage::Proc => " name args body",
         Usage::Puts => " ?-nonewline? ?channelId? string",
+        Usage::Scan => " string format ?varName ...?",
         Usage::Set => " varName ?newValue?",
         Usage::Split => " string ?splitChars?",
+        Usage::String => " subcommand ?arg ...?",
+        Usage::StringCompare => " compare ?-nocase? ?-length int? string1 string2",
+        Usage::StringEqual => " equal ?-nocase? ?-length int? string1 string2",
+        Usage::StringFirst => " first needle haystack ?startIndex?",
+        Usage::StringIndex => " index string charIndex",
+        Usage::StringInsert => " insert string index insertString",
+        Usage::StringIs => " is class ?-strict? string",
+        Usage::StringLast => " last needle haystack ?lastIndex?",
+        Usage::StringLength => " length string",
+        Usage::StringMap => " map ?-nocase? mapping string",
+        Usage::StringMatch => " match ?-nocase? pattern string",
+        Usage::StringRange => " range string first last",
+        Usage::StringRepeat => " repeat string count",
+        Usage::StringReplace => " replace string first last ?string?",
+        Usage::StringReverse => " reverse string",
+        Usage::StringTolower => " tolower string",
+        Usage::StringToupper => " toupper string",
+        Usage::StringTrim => " trim string ?chars?",
+        Usage::StringTrimleft => " trimleft string ?chars?",
+        Usage::StringTrimright => " trimright string ?chars?",
         Usage::Switch => " ?option ...? string ?pattern body ...? ?default body?",
         Usage::Throw => " type message",
         Usage::Try => " body ?handler ...? ?finally script?",
