@@ -13,8 +13,6 @@ mod script_ends;
 mod script_files;
 mod script_texts;
 mod scripts;
-#[cfg(test)]
-mod tests;
 mod top_call;
 mod words;
 
