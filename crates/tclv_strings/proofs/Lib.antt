@@ -1,0 +1,13 @@
+pub mod CountLemmas
+pub mod WordLemmas
+pub mod PlaceLemmas
+pub mod PartLemmas
+pub mod MakingLemmas
+pub mod FindLemmas
+pub mod NameLemmas
+pub mod CharacterLemmas
+pub mod ComparingLemmas
+pub mod TrimLemmas
+pub mod CaseLemmas
+pub mod MappingLemmas
+pub mod ClassLemmas

@@ -1,0 +1,36 @@
+use Rattle.std.proofs.Common.{◌≡◌, ◌≢◌, ◌≤◌, ◌-◌, ◌∙◌, ℕ, [], length, get_or, ap, sym, arith}
+use Rattle.tclv_model.specs.Rows.{Gives}
+use Rattle.tclv_value.specs.Stacks.{top}
+use Rattle.tclv_reply.specs.Replies.{call_word}
+use Rattle.tclv_strings.specs.Finding.{row_first, place_text, first_from, found_first}
+use Rattle.tclv_reply.proofs.Laws.{answered, answers_as, count_words, three_words}
+use Rattle.tclv_strings.proofs.WordLemmas.{four_words}
+use Rattle.tclv_strings.proofs.CountLemmas.{first_count}
+use Rattle.tclv_strings.proofs.finding.string_first.Goals as goal
+
+pub returns-in-3 : goal.returns-in-3
+returns-in-3 c =
+    let s = c.args.store.now.stack in
+    let n = c.args.n in
+    let h = c.height-height.ensures in
+    let le : n ≤ c.height-height.result = omega arith in
+    let row = ap (row_first (call_word n s)) (three_words s [] n c.in-3.is (omega arith)) ∙ ap (λ (k : ℕ). Gives (place_text (first_from (get_or s (k - 2) []) 0 (get_or s (k - 1) [])))) (sym h) in
+    answers_as _ _ n _ _ _ row (answered _ n _ _ _ _ _ _ h le c.push_first-done.ensures c.settle.ensures.settles c.settle.ensures.same)
+
+pub returns-in-4 : goal.returns-in-4
+returns-in-4 c =
+    let s = c.args.store.now.stack in
+    let n = c.args.n in
+    let h = c.height-height.ensures in
+    let le : n ≤ c.height-height.result = omega arith in
+    let row = ap (row_first (call_word n s)) (four_words s [] n c.in-4.is (omega arith)) ∙ ap (λ (k : ℕ). found_first (get_or s (k - 3) []) (get_or s (k - 2) []) (get_or s (k - 1) [])) (sym h) in
+    answers_as _ _ n _ _ _ row (answered _ n _ _ _ _ _ _ h le c.push_first_from-done.ensures c.settle-in-4.ensures.settles c.settle-in-4.ensures.same)
+
+pub returns-in_default : goal.returns-in_default
+returns-in_default c =
+    let s = c.args.store.now.stack in
+    let n = c.args.n in
+    let k : length (top n s) ≡ n = count_words s [] n (omega arith) in
+    let one : length (top n s) ≢ 3 = λ e. omega (arith, c.in_default, k, e) in
+    let two : length (top n s) ≢ 4 = λ e. omega (arith, c.in_default, k, e) in
+    answers_as _ _ n _ _ _ (first_count (call_word n s) (top n s) one two) c.refuse_words.ensures

@@ -1,0 +1,12 @@
+pub mod Places
+pub mod Measuring
+pub mod Reading
+pub mod Changing
+pub mod Making
+pub mod Finding
+pub mod Mapping
+pub mod Folding
+pub mod Trimming
+pub mod Comparing
+pub mod Classes
+pub mod Subcommands
