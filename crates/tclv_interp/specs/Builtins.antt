@@ -42,7 +42,7 @@ built_in =
     (codes "global", target.Plain plain.Global) ∷
     (codes "if", target.Control control.If) ∷
     (codes "incr", target.Plain plain.Incr) ∷
-    (codes "info", target.Plain plain.Info) ∷
+    (codes "info", target.Info) ∷
     (codes "join", target.Plain (plain.Data command.Join)) ∷
     (codes "lappend", target.Plain (plain.Cell cell.Lappend)) ∷
     (codes "lassign", target.Plain plain.Lassign) ∷
@@ -66,6 +66,7 @@ built_in =
     (codes "return", target.Code ending.Return) ∷
     (codes "set", target.Plain plain.Set) ∷
     (codes "split", target.Plain (plain.Data command.Split)) ∷
+    (codes "string", target.Plain (plain.Data command.String)) ∷
     (codes "switch", target.Control control.Switch) ∷
     (codes "throw", target.Code ending.Throw) ∷
     (codes "try", target.Code ending.Try) ∷

@@ -26,6 +26,8 @@ pub enum CommandTarget {
     Control(ControlCommand),
     /// One that ends with a code, or sees how a script ended.
     Code(CodeCommand),
+    /// `info subcommand ?arg ...?`, some of whose subcommands read the table of commands.
+    Info,
     /// `proc name args body`, which changes the table of commands.
     Proc,
 }
@@ -56,7 +58,7 @@ pub struct Tables {
 }
 
 /// The commands that are built in, by their names.
-const BUILTINS: [(&[u8], CommandTarget); 46] = [
+const BUILTINS: [(&[u8], CommandTarget); 47] = [
     (b"append", CommandTarget::Plain(PlainCommand::Append)),
     (b"array", CommandTarget::Plain(PlainCommand::Array)),
     (b"break", CommandTarget::Plain(PlainCommand::Break)),
@@ -75,7 +77,7 @@ const BUILTINS: [(&[u8], CommandTarget); 46] = [
     (b"global", CommandTarget::Plain(PlainCommand::Global)),
     (b"if", CommandTarget::Control(ControlCommand::If)),
     (b"incr", CommandTarget::Plain(PlainCommand::Incr)),
-    (b"info", CommandTarget::Plain(PlainCommand::Info)),
+    (b"info", CommandTarget::Info),
     (
         b"join",
         CommandTarget::Plain(PlainCommand::Data(DataCommand::Join)),
@@ -149,6 +151,10 @@ const BUILTINS: [(&[u8], CommandTarget); 46] = [
     (
         b"split",
         CommandTarget::Plain(PlainCommand::Data(DataCommand::Split)),
+    ),
+    (
+        b"string",
+        CommandTarget::Plain(PlainCommand::Data(DataCommand::String)),
     ),
     (b"switch", CommandTarget::Control(ControlCommand::Switch)),
     (b"throw", CommandTarget::Code(CodeCommand::Throw)),

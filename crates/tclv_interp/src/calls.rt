@@ -246,6 +246,13 @@ impl Interp {
         &self.options
     }
 
+    /// Lends the variables and the texts of their cells, from which the state of the meaning is read.
+    pub fn values(&self) -> &Values
+        ensures { result.now ≡ self.now.machine.values }
+    {
+        &self.machine.values
+    }
+
     /// How many events there were: writes that were completed.
     pub fn writes(&self) -> u64
         ensures { result ≡ writes_of self.now }

@@ -8,6 +8,7 @@ ghost use Rattle.tclv_interp.specs.Builtins.{target_of};
 ghost use Rattle.tclv_interp.specs.Commands as spec;
 
 use crate::builtins::{CommandTarget, Found, Tables, resolve};
+use crate::proc_info::{ProcInfo, proc_info_in, run_proc_info};
 use crate::procedures::cmd_proc;
 use tclv_control::{Behind, finish_behind, plan_call, plan_code, plan_control};
 use tclv_engine::{Carried, End, Ended, Host, Machine, Plan};
@@ -49,6 +50,45 @@ fn plan_proc(machine: &mut Machine<Tables>, n: usize) -> Result<Plan<Behind>, En
     Ok(Plan::Finished(Carried::Plain))
 }
 
+// What a subcommand of `info` wants done that asks for a procedure or for the level: it is run, and its
+// result is there.
+fn plan_proc_info(
+    machine: &mut Machine<Tables>,
+    command: ProcInfo,
+    n: usize,
+) -> Result<Plan<Behind>, End>
+    requires words { n ≤ length machine.old.values.store.stack }
+    requires some { 1 < n }
+    ensures answer { Answers (spec.wanted_proc_info command (top n machine.old.values.store.stack)) as_plan machine.old result machine.new }
+    ensures stack { Leaves (PlanOver (under n machine.old.values.store.stack)) (under n machine.old.values.store.stack) result machine.new.values.store.stack }
+    ensures calm { IsCalm result }
+    ensures units { machine.new.units ≡ machine.old.units }
+{
+    run_proc_info(machine, command, n)?;
+    Ok(Plan::Finished(Carried::Plain))
+}
+
+// What `info` wants done: it is run, and its result is there.
+#[tactic(auto, using(tclv_engine::proofs::Binds::calm_caused))]
+fn plan_info<O: Outside>(
+    machine: &mut Machine<Tables>,
+    out: &mut O,
+    n: usize,
+) -> Result<Plan<Behind>, End>
+    requires words { n ≤ length machine.old.values.store.stack }
+    requires some { 0 < n }
+    ensures answer { AnswersOver (spec.wanted_info (top n machine.old.values.store.stack)) as_plan machine.old
+        (outer (O.told out.old) (O.torn out.old)) result machine.new (outer (O.told out.new) (O.torn out.new)) }
+    ensures stack { Leaves (PlanOver (under n machine.old.values.store.stack)) (under n machine.old.values.store.stack) result machine.new.values.store.stack }
+    ensures cause { Caused (O.faults out.old) (O.faults out.new) result }
+    ensures units { machine.new.units ≡ machine.old.units }
+{
+    match proc_info_in(machine, n)? {
+        Some(command) => plan_proc_info(machine, command, n),
+        None => plan_plain(machine, out, PlainCommand::Info, n),
+    }
+}
+
 // What a command wants done that is built in, whose words are the top n texts.
 #[tactic(auto, using(tclv_engine::proofs::Binds::calm_caused))]
 fn plan_builtin<O: Outside>(
@@ -69,6 +109,7 @@ fn plan_builtin<O: Outside>(
         CommandTarget::Plain(command) => plan_plain(machine, out, command, n),
         CommandTarget::Control(command) => plan_control(machine, command, n, Behind::HandOn),
         CommandTarget::Code(command) => plan_code(machine, command, n),
+        CommandTarget::Info => plan_info(machine, out, n),
         CommandTarget::Proc => plan_proc(machine, n),
     }
 }

@@ -10,6 +10,7 @@ mod calls;
 mod commands;
 mod interpreters;
 pub mod laws;
+mod proc_info;
 mod procedures;
 
 pub use interpreters::{Interp, Stop};

@@ -8,6 +8,7 @@ use Rattle.tclv_lists.specs.Searching.{row_lsearch}
 use Rattle.tclv_lists.specs.Sequences.{row_lseq}
 use Rattle.tclv_lists.specs.Sorting.{row_lsort}
 use Rattle.tclv_lists.specs.Changing.{row_linsert, row_lremove, row_lreplace, row_lreverse}
+use Rattle.tclv_strings.specs.Subcommands.{row_string}
 use Rattle.tclv_plain.specs.declared.data_commands.DataCommand.{DataCommand}
 use Rattle.tclv_plain.specs.declared.data_commands.DataCommand.TheVariants as command
 use Rattle.tclv_engine.specs.State.{Text, State}
@@ -36,3 +37,4 @@ row_of command.Lsearch = row_lsearch
 row_of command.Lseq = row_lseq
 row_of command.Lsort = row_lsort
 row_of command.Split = row_split
+row_of command.String = row_string

@@ -12,6 +12,7 @@ use tclv_lists::{
     cmd_lrepeat, cmd_lreplace, cmd_lreverse, cmd_lsearch, cmd_lseq, cmd_lsort, cmd_split,
 };
 use tclv_model::CmdFault;
+use tclv_strings::cmd_string;
 use tclv_value::Store;
 
 /// A data command that touches no variable.
@@ -32,6 +33,7 @@ pub enum DataCommand {
     Lseq,
     Lsort,
     Split,
+    String,
 }
 
 // The call of a data command: its words are the top `n` texts of the stack, above the word of the
@@ -56,6 +58,7 @@ fn run_data(store: &mut Store, command: DataCommand, n: usize) -> Result<(), Cmd
         DataCommand::Lseq => cmd_lseq(store, n),
         DataCommand::Lsort => cmd_lsort(store, n),
         DataCommand::Split => cmd_split(store, n),
+        DataCommand::String => cmd_string(store, n),
     }
 }
 

@@ -24,3 +24,7 @@ pub returns-in-Proc-clause-answer : goal.returns-in-Proc-clause-answer
 returns-in-Proc-clause-answer g c w told =
     runs_as (ap (λ b. wanted_builtin b (top c.args.n c.args.machine.now.values.store.stack) (state_of c.args.machine.now w)) (sym c.in-Proc.is))
     (c.plan_proc.ensures.answer (outer (g.O.Outside.told c.args.out.now) (g.O.Outside.torn c.args.out.now)) w told)
+
+pub returns-in-Info-clause-answer : goal.returns-in-Info-clause-answer
+returns-in-Info-clause-answer g c w told =
+    runs_as (ap (λ b. wanted_builtin b (top c.args.n c.args.machine.now.values.store.stack) (state_of c.args.machine.now w)) (sym c.in-Info.is)) (c.plan_info.ensures.answer w told)
