@@ -366,8 +366,8 @@ fn info_level(machine: &mut Machine<Tables>) -> Result<(), End>
 
 // ---- the subcommands
 
-// The subcommand that the words name, which are the top `n` texts of the stack, the word of the call
-// lowest; `None` where it is one of the others.
+/// The subcommand that the words name, which are the top `n` texts of the stack, the word of the call
+/// lowest; `None` where it is one of the others.
 pub fn proc_info_in(machine: &mut Machine<Tables>, n: usize) -> Result<Option<ProcInfo>, NoMemory>
     requires { n ≤ length machine.old.values.store.stack }
     ensures found { IfOk result (λ found. found ≡ spec.proc_info_in (top n machine.old.values.store.stack)) }
